@@ -1,0 +1,6 @@
+pub mod Rounding
+pub mod Levels
+pub mod Charge
+pub mod Trying
+pub mod Telling
+pub mod Shown

@@ -1,0 +1,53 @@
+-- What the definitions say of the board cases, by computation.
+--     accepted-totals    the total of the plan that 01 gives is the total that 01 gives, in every accepted case
+--     accepted-levels    and its levels are those that 01 gives
+--     sorted-filling     "Filling islands in sorted order. Case 1 then totals 255000000000."
+--     exact-case-9       "In case 9 the exact power is 1000000", here times the product of the frequencies
+--     excess-case-9      "the reported total is 2000 above it, less than W = 3000"
+--     thirds             "p = 1, f = 3000 costs 334"
+-- Assumes nothing.
+use Prim.Native.Nat.{ℕ, _+_, _*_}
+use mathlib.Core.Path.{_≡_, refl}
+use mathlib.Core.Bool.{Bool, cond}
+use mathlib.Core.List.{List, [], _∷_, map}
+use lib.Dec.{eqb}
+use Rattle.model.specs.Level.{lowest, levelOf, roundedUp, cost, charge}
+use Rattle.model.specs.Job.{Job}
+use Rattle.model.specs.Power.{each, held, heaviest, sum, active, drawn, power, own, total, levelNumber, levels, workload}
+use Rattle.model.specs.Exact.{product, others, exactCost, scale, exact}
+use Rattle.model.specs.Cases.{Case, row, cases, tableT, third, four}
+
+-- the rows whose answer is 0
+abbrev accepted : List Case → List Case
+accepted [] = []
+accepted (c ∷ cs) = cond (eqb (c .answer) 0) (c ∷ accepted cs) (accepted cs)
+
+pub accepted-totals : map (λ c. total (c .job) (c .plan)) (accepted cases) ≡ map (λ c. c .reported) (accepted cases)
+unfolding lowest levelOf roundedUp cost charge each held heaviest sum active drawn power own total
+accepted-totals = refl
+
+pub accepted-levels : map (λ c. levels (c .job) (c .plan)) (accepted cases) ≡ map (λ c. c .levels) (accepted cases)
+unfolding lowest levelOf each held heaviest active levelNumber levels
+accepted-levels = refl
+
+abbrev case-1 : Job
+case-1 = record { islands = 2; cores = 2; power = 0; table = tableT; loads = four }
+
+abbrev case-9 : Job
+case-9 = record { islands = 1; cores = 1; power = 0; table = third; loads = 3000 ∷ [] }
+
+pub sorted-filling : total case-1 (1 ∷ 1 ∷ 2 ∷ 2 ∷ []) ≡ 255000000000
+unfolding lowest levelOf roundedUp cost charge each held heaviest sum active drawn power own total
+sorted-filling = refl
+
+pub exact-case-9 : exact case-9 (1 ∷ []) ≡ 1000000 * scale case-9
+unfolding lowest levelOf each held heaviest sum active drawn power own product others exactCost scale exact
+exact-case-9 = refl
+
+pub excess-case-9 : (total case-9 (1 ∷ []) ≡ 1000000 + 2000) × (workload case-9 ≡ 3000)
+unfolding lowest levelOf roundedUp cost charge each held heaviest sum active drawn power own total workload
+excess-case-9 = (refl, refl)
+
+pub thirds : cost third 0 ≡ 334
+unfolding roundedUp cost
+thirds = refl

@@ -1,0 +1,14 @@
+pub mod Limits
+pub mod Tells
+pub mod Table
+pub mod Level
+pub mod Job
+pub mod Power
+pub mod Placement
+pub mod Exact
+pub mod Plan
+pub mod Crossing
+pub mod TieRule
+pub mod Refusals
+pub mod Answer
+pub mod Cases
