@@ -2,6 +2,7 @@
 --     accepted-totals    the total of the plan that 01 gives is the total that 01 gives, in every accepted case
 --     accepted-levels    and its levels are those that 01 gives
 --     sorted-filling     "Filling islands in sorted order. Case 1 then totals 255000000000."
+--     in-order           "which gives 2.62 where filling islands in order gives 6.96": case 13
 --     exact-case-9       "In case 9 the exact power is 1000000", here times the product of the frequencies
 --     excess-case-9      "the reported total is 2000 above it, less than W = 3000"
 --     thirds             "p = 1, f = 3000 costs 334"
@@ -9,13 +10,14 @@
 use Prim.Native.Nat.{ℕ, _+_, _*_}
 use mathlib.Core.Path.{_≡_, refl}
 use mathlib.Core.Bool.{Bool, cond}
-use mathlib.Core.List.{List, [], _∷_, map}
+use mathlib.Core.List.{List, [], _∷_, _++_, map}
 use lib.Dec.{eqb}
+use lib.ListN.{replicate}
 use Rattle.model.specs.Level.{lowest, levelOf, roundedUp, cost, charge}
 use Rattle.model.specs.Job.{Job}
 use Rattle.model.specs.Power.{each, held, heaviest, sum, active, drawn, power, own, total, levelNumber, levels, workload}
 use Rattle.model.specs.Exact.{product, others, exactCost, scale, exact}
-use Rattle.model.specs.Cases.{Case, row, cases, tableT, third, four}
+use Rattle.model.specs.Cases.{Case, row, cases, tableT, third, paper, four}
 
 -- the rows whose answer is 0
 abbrev accepted : List Case → List Case
@@ -39,6 +41,13 @@ case-9 = record { islands = 1; cores = 1; power = 0; table = third; loads = 3000
 pub sorted-filling : total case-1 (1 ∷ 1 ∷ 2 ∷ 2 ∷ []) ≡ 255000000000
 unfolding lowest levelOf roundedUp cost charge each held heaviest sum active drawn power own total
 sorted-filling = refl
+
+abbrev case-13 : Job
+case-13 = record { islands = 8; cores = 8; power = 0; table = paper; loads = replicate 7 354400 ++ (1000000 ∷ []) }
+
+pub in-order : total case-13 (replicate 8 8) ≡ 6961600000000
+unfolding lowest levelOf roundedUp cost charge each held heaviest sum active drawn power own total
+in-order = refl
 
 pub exact-case-9 : exact case-9 (1 ∷ []) ≡ 1000000 * scale case-9
 unfolding lowest levelOf each held heaviest sum active drawn power own product others exactCost scale exact

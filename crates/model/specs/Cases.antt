@@ -8,6 +8,7 @@ use lib.ListN.{replicate}
 use Rattle.model.specs.Table.{Table}
 use Rattle.model.specs.Job.{Job}
 
+-- "case | job | answer | total | plan | levels"; the plan and the levels are empty where the answer is a refusal
 pub record Case : Type 0 where
   pub job : Job
   pub answer : ℕ

@@ -3,6 +3,7 @@
 --     product       the product of a list
 --     others        that product without the entry at a place
 --     exactCost     p times 1000000 over f at a level, times the product
+--     scale         the product of all the table's frequencies
 --     exact         the exact power of a placement in picowatts, times the product
 -- Assumes nothing.
 use Prim.Native.Nat.{ℕ, zero, suc, _*_}
@@ -29,6 +30,7 @@ others (f ∷ fs) (suc k) = f * others fs k
 unfoldable pub exactCost : Table → ℕ → ℕ
 exactCost t k = getD (t .powers) k 0 * million * others (t .frequencies) k
 
+-- "both sides of each comparison are multiplied by the product of all the table's frequencies"
 unfoldable pub scale : Job → ℕ
 scale job = product (job .table .frequencies)
 

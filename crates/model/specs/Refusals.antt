@@ -2,6 +2,7 @@
 -- 01 names is that it does not.
 --     Condition     a number, and what has to hold so that a job is not refused by it
 --     Tried         a number is that of the first condition that does not hold, or 0 where all hold
+--     sizeConditions, tableConditions, powerConditions, loadConditions, roomConditions    the rows 1; 2 to 4; 5; 6 to 8; 9
 --     conditions    the nine of a job and of the lengths of the two lent buffers
 --     causeNumber   the number of each case of the enum
 -- Assumes nothing.
@@ -16,6 +17,7 @@ use Rattle.model.specs.Limits.{most-islands, most-cores, most-island-pow
 use Rattle.model.specs.Table.{Table, WellShaped, WellRanged, NotFalling}
 use Rattle.model.specs.Job.{Job}
 
+-- a row of 01's table of refusals, turned round
 pub record Condition : Type 1 where
   pub number : ℕ
   pub holds : Type 0

@@ -1,8 +1,10 @@
-// Judges a row of level tables, good and damaged, and writes the answer to each as `table,answer`. What it writes is held to the
-// file stdout beside src/. A name says what is wrong; `at` is the last value that passes, `past` the first that does not.
+// Judges a row of level tables, good and damaged, and writes the answer to each as `table,answer`; then the level of some loads in
+// table T as `load,level`, counted from 0, with 3 where no level is fast enough. What it writes is held to the file stdout beside
+// src/. A name says what is wrong; `at` is the last value that passes, `past` the first that does not.
 use libc::STDOUT_FILENO;
 use model::Refusal;
 use planner::table::Judged;
+use units::Kilohertz;
 
 fn cause(refusal: Refusal) -> u64 {
     match refusal {
@@ -42,6 +44,45 @@ fn shapes() {
     show(b"a power too few", &other, &one);
     show(b"levels past", &many, &powers);
     show(b"levels at not rising", &many[0..32], &powers[0..32]);
+}
+
+// As many levels as there may be, all of one slope.
+fn longest() {
+    let rising = [
+        1000u32,
+        1001,
+        1002,
+        1003,
+        1004,
+        1005,
+        1006,
+        1007,
+        1008,
+        1009,
+        1010,
+        1011,
+        1012,
+        1013,
+        1014,
+        1015,
+        1016,
+        1017,
+        1018,
+        1019,
+        1020,
+        1021,
+        1022,
+        1023,
+        1024,
+        1025,
+        1026,
+        1027,
+        1028,
+        1029,
+        1030,
+        1031,
+    ];
+    show(b"levels at", &rising, &rising);
 }
 
 // Each end of each range, and values that 32 bits hold and the ranges do not.
@@ -93,9 +134,32 @@ fn slopes() {
     );
 }
 
+fn show_level(load: u64) {
+    io::print_decimal(STDOUT_FILENO, load);
+    io::write_all(STDOUT_FILENO, b",");
+    let level = planner::table::level(&[100000u32, 200000, 400000], Kilohertz(load));
+    io::print_decimal(STDOUT_FILENO, level as u64);
+    io::write_all(STDOUT_FILENO, b"\n");
+}
+
+// A load between two levels, at one and past one; and one whose lower 32 bits would fit.
+fn levels() {
+    show_level(0);
+    show_level(1);
+    show_level(100000);
+    show_level(100001);
+    show_level(400000);
+    show_level(400001);
+    show_level(4295067296);
+    show_level(18446744073709551615);
+}
+
 fn main() {
     io::write_all(STDOUT_FILENO, b"table,answer\n");
     shapes();
+    longest();
     ranges();
     slopes();
+    io::write_all(STDOUT_FILENO, b"load,level\n");
+    levels();
 }

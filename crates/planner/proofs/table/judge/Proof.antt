@@ -3,8 +3,18 @@ use mathlib.Core.Path.{refl}
 use mathlib.Core.Logic.{inl, inr}
 use borrow.Author.Needs.{needs}
 use borrow.Author.Tests.{not-true, not-false}
+use denote.Ref.{now}
+use Rattle.model.specs.Table.{WellShaped, WellRanged}
+use Rattle.planner.specs.Judged.{tableOf}
 use Rattle.planner.proofs.table.judge.Statement.{statement}
 use Rattle.planner.proofs.table.judge.Tie as tie
+
+-- past the first test, and past the second
+shaped : (c : tie.Else1) → WellShaped (tableOf (now (c .before .before .before .before .args .frequencies)) (now (c .before .before .before .before .args .powers)))
+shaped c = c .before .well-shaped .ensures .holds (not-false _ (c .if1 .left))
+
+ranged : (c : tie.Else2) → WellRanged (tableOf (now (c .before .before .before .before .before .before .args .frequencies)) (now (c .before .before .before .before .before .before .args .powers)))
+ranged c = c .before .well-ranged .ensures .holds (not-false _ (c .if2 .left))
 
 well-shaped-requires : tie.Need-well-shaped-requires
 well-shaped-requires c κs = search needs
@@ -16,34 +26,23 @@ well-ranged-requires : tie.Need-well-ranged-requires
 well-ranged-requires c κs = search needs
 
 returns-2 : tie.Need-returns-2
-returns-2 c =
-    inr (
-      c .before .before .before .well-shaped .ensures .holds (not-false _ (c .before .before .if1 .left)),
-      inl (c .before .well-ranged .ensures .fails (not-true _ (c .if2 .taken)), refl),
-    )
+returns-2 c = inr (shaped (c .before .before), inl (c .before .well-ranged .ensures .fails (not-true _ (c .if2 .taken)), refl))
 
 not-falling-requires : tie.Need-not-falling-requires
-not-falling-requires c κs =
-    c .before .before .before .well-shaped .ensures .holds (not-false _ (c .before .before .if1 .left)) .same-length
+not-falling-requires c κs = shaped (c .before .before) .same-length
 
 returns-3 : tie.Need-returns-3
 returns-3 c =
     inr (
-      c .before .before .before .before .before .well-shaped .ensures .holds (not-false _ (c .before .before .before .before .if1 .left)),
-      inr (
-        c .before .before .before .well-ranged .ensures .holds (not-false _ (c .before .before .if2 .left)),
-        inl (c .before .not-falling .ensures .fails (not-true _ (c .if3 .taken)), refl),
-      ),
+      shaped (c .before .before .before .before),
+      inr (ranged (c .before .before), inl (c .before .not-falling .ensures .fails (not-true _ (c .if3 .taken)), refl)),
     )
 
 returns-4 : tie.Need-returns-4
 returns-4 c =
     inr (
-      c .before .before .before .before .before .well-shaped .ensures .holds (not-false _ (c .before .before .before .before .if1 .left)),
-      inr (
-        c .before .before .before .well-ranged .ensures .holds (not-false _ (c .before .before .if2 .left)),
-        inr (c .before .not-falling .ensures .holds (not-false _ (c .if3 .left)), refl),
-      ),
+      shaped (c .before .before .before .before),
+      inr (ranged (c .before .before), inr (c .before .not-falling .ensures .holds (not-false _ (c .if3 .left)), refl)),
     )
 
 pub judge-spec : {M : Type 1} → statement M

@@ -1,0 +1,21 @@
+#!/bin/sh
+# Proves the crates, runs the programs among them and shows what they write.
+set -u
+cd "$(dirname "$0")/.." || exit 1
+. tests/tools.sh
+need_rt
+
+say "proving $(sed -n 's/^\([a-z_]*\):.*/\1/p' crates.txt | tr '\n' ' ')(seconds each; what is unchanged is not proved again)"
+log=$(mktemp) || exit 1
+trap 'rm -f "$log"' EXIT
+{ rt check 2>&1; echo "exit status $?"; } | tee "$log" | grep --line-buffered '^rt: '
+if ! grep -q '^exit status 0$' "$log"; then
+    say "not proved; what the check said:"
+    cat "$log"
+    exit 1
+fi
+for program in crates/*/src/main.rt; do
+    name=${program#crates/} name=${name%%/*}
+    say "what $name writes"
+    cat "crates/$name/stdout"
+done
