@@ -17,3 +17,12 @@ need_rt() {
     say "the Rattle toolchain's command rt is not on the PATH"
     exit 1
 }
+
+# run_program NAME: runs a program that rt has built. Programs are x86-64 code: the toolchain has the loader and the C library that they
+# run with and, where the machine is another one, an emulator.
+run_program() {
+    kit=$(dirname "$(dirname "$(readlink -f "$(command -v rt)")")")/on/$(uname -m)/toolchain
+    emulator=$kit/bin/qemu-x86_64
+    [ -x "$emulator" ] || emulator=
+    ${emulator:+"$emulator"} "$kit/lib/ld-linux-x86-64.so.2" --library-path "$kit/lib" "target/bin/$1"
+}

@@ -8,11 +8,9 @@ use mathlib.Core.Path.{_≡_, refl, sym, ap, _∙_}
 use mathlib.Core.Logic.{inl, inr}
 use native.Mathlib.Omega.{arith}
 use Rattle.units.specs.declared.Microwatts.{Microwatts}
-use Rattle.model.specs.declared.Refusal.{Refusal}
-use Rattle.model.specs.declared.Refusal.the-variants.{Sizes, Levels, Ranges, Slopes, IslandPower, Count, Order, Speed, Buffers}
-use Rattle.model.specs.Refusals.{FitSizes, sizeConditions, causeNumber}
+use Rattle.model.specs.declared.Refusal.the-variants.{Sizes}
+use Rattle.model.specs.Refusals.{FitSizes, sizeConditions}
 use Rattle.model.proofs.Trying.{tried-one, cause-one}
-use Rattle.board.specs.declared.Board.{Board}
 use Rattle.board.specs.declared.NewBoard.{NewBoard}
 use Rattle.board.specs.declared.NewBoard.the-variants.{Made, Refused}
 use Rattle.board.specs.NewBoard.{BoardAnswer, numberOf}

@@ -5,7 +5,6 @@ use mathlib.Core.Path.{_≡_}
 use Rattle.units.specs.declared.Microwatts.{Microwatts}
 use Rattle.model.specs.Limits.{most-islands, most-cores, most-places, most-island-power}
 use Rattle.model.specs.Refusals.{Tried, sizeConditions, causeNumber}
-use Rattle.board.specs.declared.Board.{Board}
 use Rattle.board.specs.declared.NewBoard.{NewBoard}
 use Rattle.board.specs.declared.NewBoard.the-variants.{Made, Refused}
 
@@ -19,7 +18,7 @@ pub record BoardAnswer (islands cores : ℕ) (power : Microwatts) (r : NewBoard)
   pub made : numberOf r ≡ 0 → r ≡ Made (record { islands = islands; cores = cores; power = power })
 
 -- the limits that the board record names are the model's
-pub record Named (islands cores places power : ℕ) : Type 0 where
+pub record LimitsAgree (islands cores places power : ℕ) : Type 0 where
   pub islands-named : islands ≡ most-islands
   pub cores-named : cores ≡ most-cores
   pub places-named : places ≡ most-places

@@ -5,7 +5,7 @@ use units::Microwatts;
 ghost use mathlib.Core.Path.{_≡_};
 ghost use lib.Dec.{leb};
 ghost use Rattle.model.specs.Limits.{most-island-power};
-ghost use Rattle.board.specs.NewBoard.{BoardAnswer, Named};
+ghost use Rattle.board.specs.NewBoard.{BoardAnswer, LimitsAgree};
 
 pub struct Board {
     pub islands: u64,
@@ -37,7 +37,7 @@ impl Board {
           c ← ⟦Board::CORES⟧ .entry
           p ← ⟦Board::PLACES⟧ .entry
           h ← ⟦Board::ISLAND_POWER⟧ .entry
-          ⌜ Named i c p h ⌝ }
+          ⌜ LimitsAgree i c p h ⌝ }
     {
         if islands < 1 {
             return NewBoard::Refused(Refusal::Sizes);

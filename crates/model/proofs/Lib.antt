@@ -1,4 +1,5 @@
 pub mod Rounding
+pub mod Scaling
 pub mod Levels
 pub mod Charge
 pub mod Trying

@@ -4,20 +4,20 @@
 --     sorted-filling     "Filling islands in sorted order. Case 1 then totals 255000000000."
 --     in-order           "which gives 2.62 where filling islands in order gives 6.96": case 13
 --     exact-case-9       "In case 9 the exact power is 1000000", here times the product of the frequencies
+--     exact-case-1       with table T all costs are whole, so the exact power is the total, here times the product of three frequencies
 --     excess-case-9      "the reported total is 2000 above it, less than W = 3000"
 --     thirds             "p = 1, f = 3000 costs 334"
 -- Assumes nothing.
-use Prim.Native.Nat.{ℕ, _+_, _*_}
+use Prim.Native.Nat.{_+_, _*_}
 use mathlib.Core.Path.{_≡_, refl}
-use mathlib.Core.Bool.{Bool, cond}
-use mathlib.Core.List.{List, [], _∷_, _++_, map}
+use mathlib.Core.Bool.{cond}
+use mathlib.Core.List.{List, [], _∷_, map}
 use lib.Dec.{eqb}
 use lib.ListN.{replicate}
 use Rattle.model.specs.Level.{lowest, levelOf, roundedUp, cost, charge}
-use Rattle.model.specs.Job.{Job}
 use Rattle.model.specs.Power.{each, held, heaviest, sum, active, drawn, power, own, total, levelNumber, levels, workload}
 use Rattle.model.specs.Exact.{product, others, exactCost, scale, exact}
-use Rattle.model.specs.Cases.{Case, row, cases, tableT, third, paper, four}
+use Rattle.model.specs.Cases.{Case, case-1, case-9, case-13, cases, third}
 
 -- the rows whose answer is 0
 abbrev accepted : List Case → List Case
@@ -32,30 +32,25 @@ pub accepted-levels : map (λ c. levels (c .job) (c .plan)) (accepted cases) ≡
 unfolding lowest levelOf each held heaviest active levelNumber levels
 accepted-levels = refl
 
-abbrev case-1 : Job
-case-1 = record { islands = 2; cores = 2; power = 0; table = tableT; loads = four }
-
-abbrev case-9 : Job
-case-9 = record { islands = 1; cores = 1; power = 0; table = third; loads = 3000 ∷ [] }
-
-pub sorted-filling : total case-1 (1 ∷ 1 ∷ 2 ∷ 2 ∷ []) ≡ 255000000000
+pub sorted-filling : total (case-1 .job) (1 ∷ 1 ∷ 2 ∷ 2 ∷ []) ≡ 255000000000
 unfolding lowest levelOf roundedUp cost charge each held heaviest sum active drawn power own total
 sorted-filling = refl
 
-abbrev case-13 : Job
-case-13 = record { islands = 8; cores = 8; power = 0; table = paper; loads = replicate 7 354400 ++ (1000000 ∷ []) }
-
-pub in-order : total case-13 (replicate 8 8) ≡ 6961600000000
+pub in-order : total (case-13 .job) (replicate 8 8) ≡ 6961600000000
 unfolding lowest levelOf roundedUp cost charge each held heaviest sum active drawn power own total
 in-order = refl
 
-pub exact-case-9 : exact case-9 (1 ∷ []) ≡ 1000000 * scale case-9
+pub exact-case-9 : exact (case-9 .job) (case-9 .plan) ≡ 1000000 * scale (case-9 .job)
 unfolding lowest levelOf each held heaviest sum active drawn power own product others exactCost scale exact
 exact-case-9 = refl
 
-pub excess-case-9 : (total case-9 (1 ∷ []) ≡ 1000000 + 2000) × (workload case-9 ≡ 3000)
-unfolding lowest levelOf roundedUp cost charge each held heaviest sum active drawn power own total workload
+pub excess-case-9 : (case-9 .reported ≡ 1000000 + 2000) × (workload (case-9 .job) ≡ 3000)
+unfolding sum workload
 excess-case-9 = (refl, refl)
+
+pub exact-case-1 : exact (case-1 .job) (case-1 .plan) ≡ case-1 .reported * scale (case-1 .job)
+unfolding lowest levelOf each held heaviest sum active drawn power own product others exactCost scale exact
+exact-case-1 = refl
 
 pub thirds : cost third 0 ≡ 334
 unfolding roundedUp cost

@@ -1,6 +1,6 @@
 -- The board cases of 01 as data: the one place of their expected values.
 --     Case        a row of 01's table: a job, and the answer, total, plan and levels that it gets with buffers that fit
---     cases       the fourteen rows
+--     case-1 to case-14, proved, run, cases    the fourteen rows, by name, in two parts and together
 -- Assumes nothing.
 use Prim.Native.Nat.{ℕ}
 use mathlib.Core.List.{List, [], _∷_, _++_}
@@ -47,40 +47,73 @@ paper = record { frequencies = 354400 ∷ 1000000 ∷ []; powers = 89025 ∷ 200
 abbrev pub fastest : Table
 fastest = record { frequencies = 4000000 ∷ []; powers = 10000000 ∷ [] }
 
--- the loads of case 1, and of case 5
+-- the loads of cases 1, 5 and 3
 abbrev pub four : List ℕ
 four = 50000 ∷ 100000 ∷ 200000 ∷ 400000 ∷ []
 
 abbrev pub two : List ℕ
 two = 100000 ∷ 400000 ∷ []
 
+abbrev pub zeros : List ℕ
+zeros = 0 ∷ 0 ∷ 100000 ∷ 100000 ∷ []
+
+-- case 14's plan, "eight each of 1 to 8"
+abbrev pub eights : List ℕ
+eights =
+    replicate 8 1
+    ++ (replicate 8 2
+    ++ (replicate 8 3 ++ (replicate 8 4 ++ (replicate 8 5 ++ (replicate 8 6 ++ (replicate 8 7 ++ replicate 8 8))))))
+
+abbrev pub case-1 : Case
+case-1 = row 2 2 0 tableT four 0 240000000000 (2 ∷ 1 ∷ 1 ∷ 2 ∷ []) (2 ∷ 3 ∷ [])
+
+abbrev pub case-2 : Case
+case-2 = row 2 2 20000 tableT four 0 280000000000 (2 ∷ 1 ∷ 1 ∷ 2 ∷ []) (2 ∷ 3 ∷ [])
+
+abbrev pub case-3 : Case
+case-3 = row 2 2 0 tableT zeros 0 20000000000 (1 ∷ 1 ∷ 2 ∷ 2 ∷ []) (0 ∷ 1 ∷ [])
+
+abbrev pub case-4 : Case
+case-4 = row 2 2 1 tableT zeros 0 20001000000 (1 ∷ 1 ∷ 2 ∷ 2 ∷ []) (0 ∷ 1 ∷ [])
+
+abbrev pub case-5 : Case
+case-5 = row 2 2 0 tableT two 0 170000000000 (1 ∷ 2 ∷ []) (1 ∷ 3 ∷ [])
+
+abbrev pub case-6 : Case
+case-6 = row 2 2 30000 tableT two 0 230000000000 (2 ∷ 2 ∷ []) (0 ∷ 3 ∷ [])
+
+abbrev pub case-7 : Case
+case-7 = row 2 2 40000 tableT two 0 240000000000 (2 ∷ 2 ∷ []) (0 ∷ 3 ∷ [])
+
+abbrev pub case-8 : Case
+case-8 = row 2 2 0 tableT [] 0 0 [] (0 ∷ 0 ∷ [])
+
+abbrev pub case-9 : Case
+case-9 = row 1 1 0 third (3000 ∷ []) 0 1002000 (1 ∷ []) (1 ∷ [])
+
+abbrev pub case-10 : Case
+case-10 = row 1 1 0 tableT (400001 ∷ []) 8 0 [] []
+
+abbrev pub case-11 : Case
+case-11 = row 1 1 0 falling (100000 ∷ []) 4 0 [] []
+
+abbrev pub case-12 : Case
+case-12 = row 1 2 0 tableT (2 ∷ 1 ∷ 0 ∷ []) 6 0 [] []
+
+abbrev pub case-13 : Case
+case-13 = row 8 8 0 paper (replicate 7 354400 ++ (1000000 ∷ [])) 0 2623176960000 (replicate 7 7 ++ (8 ∷ [])) (replicate 6 0 ++ (1 ∷ 2 ∷ []))
+
+abbrev pub case-14 : Case
+case-14 = row 8 8 1000000000 fastest (replicate 64 4000000) 0 8640000000000000 eights (replicate 8 1)
+
 -- "Cases 1 to 12 are the ones to prove."
 abbrev pub proved : List Case
 proved =
-    row 2 2 0 tableT four 0 240000000000 (2 ∷ 1 ∷ 1 ∷ 2 ∷ []) (2 ∷ 3 ∷ [])
-    ∷ row 2 2 20000 tableT four 0 280000000000 (2 ∷ 1 ∷ 1 ∷ 2 ∷ []) (2 ∷ 3 ∷ [])
-    ∷ row 2 2 0 tableT (0 ∷ 0 ∷ 100000 ∷ 100000 ∷ []) 0 20000000000 (1 ∷ 1 ∷ 2 ∷ 2 ∷ []) (0 ∷ 1 ∷ [])
-    ∷ row 2 2 1 tableT (0 ∷ 0 ∷ 100000 ∷ 100000 ∷ []) 0 20001000000 (1 ∷ 1 ∷ 2 ∷ 2 ∷ []) (0 ∷ 1 ∷ [])
-    ∷ row 2 2 0 tableT two 0 170000000000 (1 ∷ 2 ∷ []) (1 ∷ 3 ∷ [])
-    ∷ row 2 2 30000 tableT two 0 230000000000 (2 ∷ 2 ∷ []) (0 ∷ 3 ∷ [])
-    ∷ row 2 2 40000 tableT two 0 240000000000 (2 ∷ 2 ∷ []) (0 ∷ 3 ∷ [])
-    ∷ row 2 2 0 tableT [] 0 0 [] (0 ∷ 0 ∷ [])
-    ∷ row 1 1 0 third (3000 ∷ []) 0 1002000 (1 ∷ []) (1 ∷ [])
-    ∷ row 1 1 0 tableT (400001 ∷ []) 8 0 [] []
-    ∷ row 1 1 0 falling (100000 ∷ []) 4 0 [] []
-    ∷ row 1 2 0 tableT (2 ∷ 1 ∷ 0 ∷ []) 6 0 [] []
-    ∷ []
+    case-1 ∷ case-2 ∷ case-3 ∷ case-4 ∷ case-5 ∷ case-6 ∷ case-7 ∷ case-8 ∷ case-9 ∷ case-10 ∷ case-11 ∷ case-12 ∷ []
 
--- cases 13 and 14, which "are run and compared"
+-- the rest "are run and compared"
 abbrev pub run : List Case
-run =
-    row 8 8 0 paper (replicate 7 354400 ++ (1000000 ∷ [])) 0 2623176960000 (replicate 7 7 ++ (8 ∷ [])) (replicate 6 0 ++ (1 ∷ 2 ∷ []))
-    ∷ row 8 8 1000000000 fastest (replicate 64 4000000) 0 8640000000000000
-    (replicate 8 1
-    ++ (replicate 8 2
-    ++ (replicate 8 3 ++ (replicate 8 4 ++ (replicate 8 5 ++ (replicate 8 6 ++ (replicate 8 7 ++ replicate 8 8)))))))
-    (replicate 8 1)
-    ∷ []
+run = case-13 ∷ case-14 ∷ []
 
 abbrev pub cases : List Case
 cases = proved ++ run
