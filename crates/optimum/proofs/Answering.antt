@@ -1,0 +1,86 @@
+-- What an answer fixes.
+--     answered-once       two answers to one job are equal in number, total and both buffers
+--     returned-plan       the plan buffer of an accepted job begins with what is shown of a plan by the rule
+-- Assumes nothing.
+use Prim.Native.Nat.{ℕ, _≤_, _<_}
+use mathlib.Core.Path.{_≡_, refl, sym, ap, _∙_, subst}
+use mathlib.Core.List.{List, _++_}
+use native.Mathlib.Decide.{decLt}
+use native.Mathlib.Omega.{arith}
+use lib.ListN.{length, take, drop}
+use lib.Seq.{take-at}
+use Rattle.model.specs.Job.{Job}
+use Rattle.model.specs.Power.{total, levels}
+use Rattle.model.specs.Plan.{shown}
+use Rattle.model.specs.Refusals.{Tried, conditions}
+use Rattle.model.specs.Answer.{Accepted, Kept, Answered}
+use Rattle.model.proofs.Trying.{tried-one}
+use Rattle.optimum.specs.Passed.{Passed, Ruled, returned}
+use Rattle.optimum.proofs.DemandTwo.{ruled-one, ruled-placement}
+use Rattle.optimum.proofs.Passing.{conditions-hold}
+
+-- number, total, plan buffer and level buffer
+abbrev pub Same : ℕ → ℕ → List ℕ → List ℕ → ℕ → ℕ → List ℕ → List ℕ → Type 0
+Same n total plan levels n′ total′ plan′ levels′ = (n ≡ n′) × (total ≡ total′) × (plan ≡ plan′) × (levels ≡ levels′)
+
+module _ (job : Job) (plan₀ levels₀ : List ℕ) where
+  accepted-once :
+      (r r′ : ℕ) (p l p′ l′ : List ℕ)
+      → Passed job
+      → Accepted job plan₀ levels₀ r p l
+      → Accepted job plan₀ levels₀ r′ p′ l′
+      → (r ≡ r′) × (p ≡ p′) × (l ≡ l′)
+  accepted-once r r′ p l p′ l′ passed one other =
+      let same : one .full ≡ other .full = ruled-one job passed (one .full) (other .full) (one .by-rule) (other .by-rule) in (
+        one .reported-total ∙ ap (λ (f : List ℕ). total job (shown job f)) same ∙ sym (other .reported-total),
+        one .plan-bytes ∙ ap (λ (f : List ℕ). shown job f ++ drop (length (job .loads)) plan₀) same ∙ sym (other .plan-bytes),
+        one .level-bytes ∙ ap (λ (f : List ℕ). levels job (shown job f) ++ drop (job .islands) levels₀) same ∙ sym (other .level-bytes),
+      )
+
+  pub answered-once :
+      (n n′ r r′ : ℕ) (p l p′ l′ : List ℕ)
+      → Answered job plan₀ levels₀ n r p l
+      → Answered job plan₀ levels₀ n′ r′ p′ l′
+      → Same n r p l n′ r′ p′ l′
+  answered-once n n′ r r′ p l p′ l′ one other =
+      let number : n ≡ n′ = tried-one (conditions job (length plan₀) (length levels₀)) n n′ (one .tried) (other .tried) in
+      elim (decLt 0 n) [
+        | yes refused ↦
+            let kept : Kept plan₀ levels₀ r p l = one .refused refused in
+            let kept′ : Kept plan₀ levels₀ r′ p′ l′ = other .refused (omega arith) in (
+              number,
+              kept .no-total ∙ sym (kept′ .no-total),
+              kept .plan-kept ∙ sym (kept′ .plan-kept),
+              kept .levels-kept ∙ sym (kept′ .levels-kept),
+            )
+        | no planned ↦
+            let none : n ≡ 0 = omega arith in
+            let passed : Passed job =
+            conditions-hold job (length plan₀) (length levels₀)
+            (subst (λ (k : ℕ). Tried (conditions job (length plan₀) (length levels₀)) k) none (one .tried)) .0 in
+            let rest = accepted-once r r′ p l p′ l′ passed (one .accepted none) (other .accepted (sym number ∙ none)) in
+            (number, rest .0, rest .1, rest .2)
+      ]
+
+  module _ (reported : ℕ) (planned leveled : List ℕ) (answer : Answered job plan₀ levels₀ 0 reported planned leveled) where
+    pub answer-passed : Passed job
+    answer-passed = conditions-hold job (length plan₀) (length levels₀) (answer .tried) .0
+
+    -- the plan, by the rule, of which the caller sees the entries of its own loads
+    pub answer-full : List ℕ
+    answer-full = answer .accepted refl .full
+
+    pub answer-ruled : Ruled job answer-full
+    unfolding answer-full
+    answer-ruled = answer .accepted refl .by-rule
+
+    pub returned-plan : returned job planned ≡ shown job answer-full
+    unfolding answer-full
+    returned-plan =
+        ap (λ (l : List ℕ). take (length (job .loads)) l) (answer .accepted refl .plan-bytes)
+        ∙ take-at (shown job answer-full) (drop (length (job .loads)) plan₀) (length (job .loads))
+        (ruled-placement job answer-passed answer-full answer-ruled .one-a-load)
+
+    pub returned-total : reported ≡ total job (returned job planned)
+    unfolding answer-full
+    returned-total = answer .accepted refl .reported-total ∙ ap (λ (l : List ℕ). total job l) (sym returned-plan)

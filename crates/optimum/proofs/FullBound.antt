@@ -1,0 +1,121 @@
+-- The lower bound over the model's full plans, crossing ones too.
+--     full-fair       a full plan is a fair assignment to its islands
+--     drawn-spread    what islands draw, as a sum over islands and a sum over positions
+--     power-front     loads behind the plan's positions draw nothing
+--     fair-bound      no fair assignment of a run's loads draws less than the run's best
+--     best-bound      no full plan of a run does
+-- Assumes nothing.
+use Prim.Native.Nat.{ℕ, zero, suc, _+_, _*_, _≤_, _<_}
+use mathlib.Core.Path.{_≡_, refl, sym, ap, _∙_}
+use mathlib.Core.List.{List, [], _∷_, _++_, append-nil}
+use native.Mathlib.Nat.{one-mul, zero-mul, le-trans, le-of-eq}
+use native.Mathlib.Decide.{decLt}
+use native.Mathlib.Omega.{arith}
+use lib.ListN.{length}
+use Rattle.model.specs.Plan.{count, Full}
+use Rattle.model.specs.Power.{each, held, heaviest, sum, drawn, power}
+use Rattle.optimum.specs.Loads.{AtMost, Sorted, NeverFalls}
+use Rattle.optimum.specs.Best.{itself, best}
+use Rattle.optimum.specs.Fair.{Fair}
+use Rattle.optimum.proofs.Held.{held-append, drawn-is}
+use Rattle.optimum.proofs.Spread.{islands, over, weighed, each-over, islands-below, islands-once, islands-above, islands-length, over-same, over-sum, spread}
+use Rattle.optimum.proofs.Places.{named-within, full-length}
+use Rattle.optimum.proofs.BestSplit.{At, best-below}
+use Rattle.optimum.proofs.LowerBound.{fair-full, fair-named, lower-bound}
+
+pub full-fair : (Q base v : ℕ) (plan : List ℕ) → Full Q base v plan → Fair Q (islands base v) plan
+full-fair Q base v plan full = record { once = λ z. at-most z; filled = λ z. exactly z }
+  where
+    outside : (z : ℕ) → ¬ (0 < count z plan) → count z (islands base v) ≡ 0 → count z plan ≡ count z (islands base v) * Q
+    outside z none zero-times =
+        let times : count z (islands base v) * Q ≡ 0 = ap (λ (n : ℕ). n * Q) zero-times ∙ zero-mul Q in
+        omega arith
+
+    at-most : (z : ℕ) → count z (islands base v) ≤ 1
+    at-most z =
+        elim (decLt base z) [
+          | no low ↦ omega (arith, islands-below base v z (omega arith))
+          | yes low ↦
+              elim (decLt (base + v) z) [
+                | yes high ↦ omega (arith, islands-above base v z high)
+                | no high ↦ le-of-eq (islands-once base v z low (omega arith))
+              ]
+        ]
+
+    exactly : (z : ℕ) → count z plan ≡ count z (islands base v) * Q
+    exactly z =
+        elim (decLt base z) [
+          | no low ↦ outside z (λ some. omega (arith, named-within base v plan (full .named) z some)) (islands-below base v z (omega arith))
+          | yes low ↦
+              elim (decLt (base + v) z) [
+                | yes high ↦ outside z (λ some. omega (arith, named-within base v plan (full .named) z some)) (islands-above base v z high)
+                | no high ↦
+                    full .filled z low (omega arith)
+                    ∙ sym (ap (λ (n : ℕ). n * Q) (islands-once base v z low (omega arith)) ∙ one-mul Q)
+              ]
+        ]
+
+pub drawn-spread :
+    (own : ℕ) (rate : ℕ → ℕ) (zs plan us : List ℕ)
+    → ((z : ℕ) → 0 < count z plan → count z zs ≡ 1)
+    → over (λ z. drawn own rate (held z plan us)) zs
+    ≡ over (λ z. itself own (heaviest (held z plan us))) zs + weighed (λ z. rate (heaviest (held z plan us))) plan us
+drawn-spread own rate zs plan us once =
+    let top : ℕ → ℕ = λ z. heaviest (held z plan us) in
+    over-same (λ z. drawn own rate (held z plan us)) (λ z. itself own (top z) + rate (top z) * sum (held z plan us)) zs
+    (λ z some. drawn-is own rate (held z plan us))
+    ∙ over-sum (λ z. itself own (top z)) (λ z. rate (top z) * sum (held z plan us)) zs
+    ∙ ap (λ (n : ℕ). over (λ z. itself own (top z)) zs + n) (spread (λ z. rate (top z)) zs plan us once)
+
+module _ (own : ℕ) (rate : ℕ → ℕ) (base v : ℕ) (plan us : List ℕ) where
+  pub power-front :
+      (vs : List ℕ) → length plan ≡ length us → power own rate base v plan (us ++ vs) ≡ power own rate base v plan us
+  unfolding power held
+  power-front vs len =
+      each-over (λ z. drawn own rate (held z plan (us ++ vs))) base v
+      ∙ over-same (λ z. drawn own rate (held z plan (us ++ vs))) (λ z. drawn own rate (held z plan us)) (islands base v)
+      (λ z some. ap (λ (l : List ℕ). drawn own rate l) (front z))
+      ∙ sym (each-over (λ z. drawn own rate (held z plan us)) base v)
+    where
+      front : (z : ℕ) → held z plan (us ++ vs) ≡ held z plan us
+      front z =
+          ap (λ (l : List ℕ). held z l (us ++ vs)) (sym (append-nil plan))
+          ∙ held-append z plan [] us vs len
+          ∙ append-nil (held z plan us)
+
+-- loads that come lightest first, none above the limit, up to which the charge never falls
+module _ (Q own : ℕ) (rate : ℕ → ℕ) (ws : List ℕ) (limit : ℕ) (pos : 0 < Q) (rises : NeverFalls rate limit) where
+  pub fair-bound :
+      (i v : ℕ) (zs plan us : List ℕ)
+      → length zs ≡ v
+      → Fair Q zs plan
+      → length plan ≡ length us
+      → Sorted us
+      → AtMost limit us
+      → At ws i us
+      → best Q own rate ws i v ≤ over (λ z. drawn own rate (held z plan us)) zs
+  fair-bound i v zs plan us size fair len sorted most at =
+      let found =
+      lower-bound Q own rate limit pos rises v (λ z. heaviest (held z plan us)) zs plan us size fair len sorted most
+      (λ z some. refl) in
+      omega (
+        arith,
+        best-below Q own rate ws (found .1) i at,
+        found .2,
+        drawn-spread own rate zs plan us (λ z some. fair-full Q zs plan fair z (fair-named Q zs plan fair z some) .0),
+      )
+
+  pub best-bound :
+      (i base v : ℕ) (plan us : List ℕ)
+      → Full Q base v plan
+      → length us ≡ v * Q
+      → Sorted us
+      → AtMost limit us
+      → At ws i us
+      → best Q own rate ws i v ≤ power own rate base v plan us
+  unfolding power
+  best-bound i base v plan us full len sorted most at =
+      le-trans
+      (fair-bound i v (islands base v) plan us (islands-length base v) (full-fair Q base v plan full)
+      (full-length Q base v plan full ∙ sym len) sorted most at)
+      (le-of-eq (sym (each-over (λ z. drawn own rate (held z plan us)) base v)))

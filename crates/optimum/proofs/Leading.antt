@@ -1,0 +1,60 @@
+-- Which of two lists of members leads, and the members of a list that ends with one.
+--     leads-same        equal lists lead each other
+--     leads-next        behind equal first entries, the rests decide
+--     leads-first       the greater first entry leads
+--     leads-one         lists of one length that lead each other are equal
+--     members-last      of a list, with one more member behind it
+--     members-member    of a lower part, a gap and the member behind it
+-- Assumes nothing.
+use Prim.Native.Nat.{ℕ, zero, suc, _+_, _<_}
+use mathlib.Core.Path.{_≡_, refl, sym, ap, _∙_}
+use mathlib.Core.List.{List, [], _∷_, _++_, append-assoc}
+use native.Mathlib.Nat.{le-antisymm, not-suc-le-zero}
+use native.Mathlib.Omega.{arith}
+use borrow.Author.Tests.{eq-eqb}
+use lib.ListN.{length, getD, length-append}
+use lib.Seq.{ext-getD}
+use Rattle.model.specs.Plan.{count, members}
+use Rattle.model.specs.TieRule.{Leads}
+use Rattle.optimum.proofs.Lists.{cons-same}
+use Rattle.optimum.proofs.Members.{members-append, members-absent}
+
+pub leads-same : (l m : List ℕ) → l ≡ m → Leads l m
+leads-same l m e j agree = omega (arith, ap (λ (a : List ℕ). getD a j 0) e)
+
+pub leads-next : (h k : ℕ) (l m : List ℕ) → h ≡ k → Leads l m → Leads (h ∷ l) (k ∷ m)
+leads-next h k l m e leads zero agree = omega arith
+leads-next h k l m e leads (suc j) agree = leads j (λ i b. agree (suc i) (omega arith))
+
+pub leads-first : (h k : ℕ) (l m : List ℕ) → k < h → Leads (h ∷ l) (k ∷ m)
+leads-first h k l m above zero agree = omega arith
+leads-first h k l m above (suc j) agree = absurd (omega (arith, agree 0 (omega arith)))
+
+-- as far as each entry is at least the other's, they agree, so the next entries are equal too
+pub leads-one : (l m : List ℕ) → length l ≡ length m → Leads l m → Leads m l → l ≡ m
+leads-one l m same first second = ext-getD 0 l m same (agree (length l))
+  where
+    agree : (n k : ℕ) → k < n → getD l k 0 ≡ getD m k 0
+    agree zero k h = absurd (not-suc-le-zero h)
+    agree (suc n) k h =
+        le-antisymm (second k (λ i b. sym (agree n i (omega arith)))) (first k (λ i b. agree n i (omega arith)))
+
+members-alone : (x p : ℕ) → members x p (x ∷ []) ≡ p ∷ []
+unfolding members
+members-alone x p = rw (eq-eqb x x refl)
+
+pub members-last : (x p : ℕ) (c : List ℕ) → members x p (c ++ (x ∷ [])) ≡ (p + length c) ∷ members x p c
+members-last x p c =
+    members-append x p c (x ∷ []) ∙ ap (λ (l : List ℕ). l ++ members x p c) (members-alone x (p + length c))
+
+pub members-member :
+    (x p : ℕ) (low gap : List ℕ)
+    → count x gap ≡ 0
+    → members x p (low ++ (gap ++ (x ∷ []))) ≡ (p + (length low + length gap)) ∷ members x p low
+members-member x p low gap none =
+    ap (members x p) (sym (append-assoc low gap (x ∷ [])))
+    ∙ members-last x p (low ++ gap)
+    ∙ cons-same (p + length (low ++ gap)) (p + (length low + length gap)) (members x p (low ++ gap)) (members x p low)
+    (omega (arith, length-append low gap))
+    (members-append x p low gap
+    ∙ ap (λ (l : List ℕ). l ++ members x p low) (members-absent x (p + length low) gap none))

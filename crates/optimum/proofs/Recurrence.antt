@@ -1,0 +1,58 @@
+-- The recurrence, without a bound on its depth in it.
+--     fill-same     the bests of fewer than m + 1 islands decide it
+--     fill-member   one more member: what it is charged, and the least cost of the gap below it with all below that
+--     best-is       the best of a run of m + 1 islands, by the bests of smaller runs
+-- Assumes nothing.
+use Prim.Native.Nat.{ℕ, zero, suc, _+_, _-_, _*_, _≤_}
+use mathlib.Core.Path.{_≡_, refl, sym, ap, _∙_}
+use mathlib.Core.List.{List}
+use native.Mathlib.Nat.{le-refl, not-suc-le-zero, le-of-suc-le-suc, sub-le, le-trans}
+use native.Mathlib.Omega.{arith}
+use Rattle.optimum.specs.Best.{itself, least, loadAt, topLoad, fill, gapCost, bestWithin, best}
+use Rattle.optimum.proofs.First.{least-same}
+
+pub fill-member :
+    (Q : ℕ) (ws : List ℕ) (b : ℕ → ℕ → ℕ) (ρ i r m : ℕ)
+    → fill Q ws b ρ i (suc r) m ≡ ρ * loadAt Q ws i m (suc r) + least m (gapCost Q ws b ρ i r m)
+unfolding fill gapCost
+fill-member Q ws b ρ i r m = refl
+
+module _ (Q : ℕ) (ws : List ℕ) (b b′ : ℕ → ℕ → ℕ) (ρ i : ℕ) where
+  pub fill-same : (r m : ℕ) → ((j g : ℕ) → g ≤ m → b j g ≡ b′ j g) → fill Q ws b ρ i r m ≡ fill Q ws b′ ρ i r m
+  unfolding fill gapCost
+  fill-same zero m same = ap (λ (n : ℕ). ρ * loadAt Q ws i m 0 + n) (same i m (le-refl m))
+  fill-same (suc r) m same =
+      ap (λ (n : ℕ). ρ * loadAt Q ws i m (suc r) + n)
+      (least-same m (gapCost Q ws b ρ i r m) (gapCost Q ws b′ ρ i r m)
+      (λ g h.
+      let low : fill Q ws b ρ i r (m - g) ≡ fill Q ws b′ ρ i r (m - g) =
+      fill-same r (m - g) (λ j k h′. same j k (le-trans h′ (sub-le m g))) in
+      omega (arith, same (i + ((m - g) * Q + suc r)) g h)))
+
+module _ (Q own : ℕ) (rate : ℕ → ℕ) (ws : List ℕ) where
+  within-same : (n k i v : ℕ) → v ≤ n → v ≤ k → bestWithin Q own rate ws n i v ≡ bestWithin Q own rate ws k i v
+  unfolding bestWithin
+  within-same zero zero i v h h′ = refl
+  within-same zero (suc k) i zero h h′ = refl
+  within-same zero (suc k) i (suc m) h h′ = absurd (not-suc-le-zero h)
+  within-same (suc n) zero i zero h h′ = refl
+  within-same (suc n) zero i (suc m) h h′ = absurd (not-suc-le-zero h′)
+  within-same (suc n) (suc k) i zero h h′ = refl
+  within-same (suc n) (suc k) i (suc m) h h′ =
+      ap (λ (c : ℕ). itself own (topLoad Q ws i m) + c)
+      (fill-same Q ws (bestWithin Q own rate ws n) (bestWithin Q own rate ws k) (rate (topLoad Q ws i m)) i (Q - 1) m
+      (λ j g b. within-same n k j g (omega arith) (omega arith)))
+
+  pub best-none : (i : ℕ) → best Q own rate ws i 0 ≡ 0
+  unfolding best bestWithin
+  best-none i = refl
+
+  pub best-is :
+      (i m : ℕ)
+      → best Q own rate ws i (suc m)
+      ≡ itself own (topLoad Q ws i m) + fill Q ws (best Q own rate ws) (rate (topLoad Q ws i m)) i (Q - 1) m
+  unfolding best bestWithin
+  best-is i m =
+      ap (λ (c : ℕ). itself own (topLoad Q ws i m) + c)
+      (fill-same Q ws (bestWithin Q own rate ws m) (best Q own rate ws) (rate (topLoad Q ws i m)) i (Q - 1) m
+      (λ j g b. within-same m g j g b (le-refl g)))

@@ -1,0 +1,40 @@
+-- The plan as a function: from the highest member down, the smallest gap that attains the least.
+--     chosen      how many islands the top gap gets
+--     planGaps    the gap walker: the lowest r + 1 members of the island x with m islands in the gaps below them
+--     planRun     the run writer: a run that begins at place i, its islands base + 1 to base + v
+--     planOf      the full plan of a job
+-- Assumes nothing.
+use Prim.Native.Nat.{ℕ, zero, suc, _+_, _-_, _*_}
+use mathlib.Core.List.{List, [], _∷_, _++_}
+use Rattle.model.specs.Level.{charge}
+use Rattle.model.specs.Job.{Job}
+use Rattle.model.specs.Power.{own}
+use Rattle.model.specs.Plan.{padded}
+use Rattle.optimum.specs.Best.{first, gapCost, topLoad, best}
+
+module _ (Q : ℕ) (ws : List ℕ) (b : ℕ → ℕ → ℕ) where
+  -- b gives the bests of the runs in gaps, ρ is what each kHz on the top island is charged
+  unfoldable pub chosen : ℕ → ℕ → ℕ → ℕ → ℕ
+  chosen ρ i r m = first m (gapCost Q ws b ρ i r m)
+
+  -- `inner` writes the run in a gap, by its place, base and number of islands
+  unfoldable pub planGaps : (ℕ → ℕ → ℕ → List ℕ) → ℕ → ℕ → ℕ → ℕ → ℕ → ℕ → List ℕ
+  planGaps inner ρ x i base zero m = inner i base m ++ (x ∷ [])
+  planGaps inner ρ x i base (suc r) m =
+      planGaps inner ρ x i base r (m - chosen ρ i r m)
+      ++ (inner (i + ((m - chosen ρ i r m) * Q + suc r)) (base + (m - chosen ρ i r m)) (chosen ρ i r m) ++ (x ∷ []))
+
+  module _ (rate : ℕ → ℕ) where
+    -- n bounds how deep runs stand in gaps; v is always enough
+    unfoldable pub planWithin : ℕ → ℕ → ℕ → ℕ → List ℕ
+    planWithin zero i base v = []
+    planWithin (suc n) i base zero = []
+    planWithin (suc n) i base (suc m) =
+        planGaps (planWithin n) (rate (topLoad Q ws i m)) (base + suc m) i base (Q - 1) m
+
+unfoldable pub planRun : ℕ → ℕ → (ℕ → ℕ) → List ℕ → ℕ → ℕ → ℕ → List ℕ
+planRun Q own rate ws i base v = planWithin Q ws (best Q own rate ws) rate v i base v
+
+-- the full plan of a job
+unfoldable pub planOf : Job → List ℕ
+planOf job = planRun (job .cores) (own job) (charge (job .table)) (padded job) 0 0 (job .islands)

@@ -1,0 +1,10 @@
+-- Fair assignments: every island of a list has exactly Q positions, and no other island has any. They may cross in any way.
+-- Assumes nothing.
+use Prim.Native.Nat.{ℕ, _*_, _≤_}
+use mathlib.Core.Path.{_≡_}
+use mathlib.Core.List.{List}
+use Rattle.model.specs.Plan.{count}
+
+pub record Fair (Q : ℕ) (zs plan : List ℕ) : Type 0 where
+  pub once : (z : ℕ) → count z zs ≤ 1
+  pub filled : (z : ℕ) → count z plan ≡ count z zs * Q
