@@ -7,22 +7,19 @@
 --     exact-case-1       with table T all costs are whole, so the exact power is the total, here times the product of three frequencies
 --     excess-case-9      "the reported total is 2000 above it, less than W = 3000"
 --     thirds             "p = 1, f = 3000 costs 334"
+--     greater-leads, smaller-behind    "greater at the first difference": 4 3 before 4 1, and not 4 1 before 4 3
 -- Assumes nothing.
-use Prim.Native.Nat.{_+_, _*_}
+use Prim.Native.Nat.{ℕ, zero, suc, _+_, _*_, _<_}
 use mathlib.Core.Path.{_≡_, refl}
-use mathlib.Core.Bool.{cond}
 use mathlib.Core.List.{List, [], _∷_, map}
-use lib.Dec.{eqb}
-use lib.ListN.{replicate}
+use native.Mathlib.Nat.{not-suc-le-zero, le-of-suc-le-suc}
+use lib.Dec.{lit≤}
+use lib.ListN.{getD, replicate}
 use Rattle.model.specs.Level.{lowest, levelOf, roundedUp, cost, charge}
 use Rattle.model.specs.Power.{each, held, heaviest, sum, active, drawn, power, own, total, levelNumber, levels, workload}
 use Rattle.model.specs.Exact.{product, others, exactCost, scale, exact}
-use Rattle.model.specs.Cases.{Case, case-1, case-9, case-13, cases, third}
-
--- the rows whose answer is 0
-abbrev accepted : List Case → List Case
-accepted [] = []
-accepted (c ∷ cs) = cond (eqb (c .answer) 0) (c ∷ accepted cs) (accepted cs)
+use Rattle.model.specs.TieRule.{Leads}
+use Rattle.model.specs.Cases.{case-1, case-9, case-13, cases, accepted, third}
 
 pub accepted-totals : map (λ c. total (c .job) (c .plan)) (accepted cases) ≡ map (λ c. c .reported) (accepted cases)
 unfolding lowest levelOf roundedUp cost charge each held heaviest sum active drawn power own total
@@ -55,3 +52,22 @@ exact-case-1 = refl
 pub thirds : cost third 0 ≡ 334
 unfolding roundedUp cost
 thirds = refl
+
+-- members of two plans, the highest first
+abbrev greater : List ℕ
+greater = 4 ∷ 3 ∷ []
+
+abbrev smaller : List ℕ
+smaller = 4 ∷ 1 ∷ []
+
+pub greater-leads : Leads greater smaller
+greater-leads zero agree = lit≤ tt
+greater-leads (suc zero) agree = lit≤ tt
+greater-leads (suc (suc j)) agree = lit≤ tt
+
+pub smaller-behind : ¬ (Leads smaller greater)
+smaller-behind leads = not-suc-le-zero (le-of-suc-le-suc (leads 1 agree))
+  where
+    agree : (k : ℕ) → k < 1 → getD smaller k 0 ≡ getD greater k 0
+    agree zero h = refl
+    agree (suc k) h = absurd (not-suc-le-zero (le-of-suc-le-suc h))

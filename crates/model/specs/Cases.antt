@@ -1,9 +1,12 @@
 -- The board cases of 01 as data: the one place of their expected values.
 --     Case        a row of 01's table: a job, and the answer, total, plan and levels that it gets with buffers that fit
 --     case-1 to case-14, proved, run, cases    the fourteen rows, by name, in two parts and together
+--     accepted    those of some rows whose answer is 0
 -- Assumes nothing.
 use Prim.Native.Nat.{ℕ}
+use mathlib.Core.Bool.{cond}
 use mathlib.Core.List.{List, [], _∷_, _++_}
+use lib.Dec.{eqb}
 use lib.ListN.{replicate}
 use Rattle.model.specs.Table.{Table}
 use Rattle.model.specs.Job.{Job}
@@ -117,3 +120,8 @@ run = case-13 ∷ case-14 ∷ []
 
 abbrev pub cases : List Case
 cases = proved ++ run
+
+-- the rows whose answer is 0
+abbrev pub accepted : List Case → List Case
+accepted [] = []
+accepted (c ∷ cs) = cond (eqb (c .answer) 0) (c ∷ accepted cs) (accepted cs)

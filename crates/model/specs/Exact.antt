@@ -5,10 +5,12 @@
 --     exactCost     p times 1000000 over f at a level, times the product
 --     scale         the product of all the table's frequencies
 --     exact         the exact power of a placement in picowatts, times the product
+--     WholeCosts    no cost of the table has to be rounded
 -- Assumes nothing.
-use Prim.Native.Nat.{ℕ, zero, suc, _*_}
+use Prim.Native.Nat.{ℕ, zero, suc, _*_, _<_}
+use mathlib.Core.Path.{_≡_}
 use mathlib.Core.List.{List, [], _∷_}
-use lib.ListN.{getD}
+use lib.ListN.{length, getD}
 use Rattle.model.specs.Limits.{million}
 use Rattle.model.specs.Table.{Table}
 use Rattle.model.specs.Level.{levelOf}
@@ -38,3 +40,8 @@ scale job = product (job .table .frequencies)
 unfoldable pub exact : Job → List ℕ → ℕ
 exact job plan =
     power (own job * scale job) (λ w. exactCost (job .table) (levelOf (job .table) w)) 0 (job .islands) plan (job .loads)
+
+-- "where all costs are whole": f divides p times 1000000 at every level
+abbrev pub WholeCosts : Table → Type 0
+WholeCosts t =
+    (k : ℕ) → k < length (t .frequencies) → (c : ℕ) × (getD (t .powers) k 0 * million ≡ c * getD (t .frequencies) k 0)

@@ -1,8 +1,11 @@
 -- What an answer fixes.
---     answered-once       two answers to one job are equal in number, total and both buffers
---     returned-plan       the plan buffer of an accepted job begins with what is shown of a plan by the rule
+--     answer-once         two answers to one job are equal in number, total and both buffers
+--     answer-passed       an accepted job passes every condition
+--     answer-full, answer-ruled    its full plan, which is by the rule
+--     returned-plan       the plan buffer begins with what is shown of that plan
+--     returned-total      and its total is reported
 -- Assumes nothing.
-use Prim.Native.Nat.{ℕ, _≤_, _<_}
+use Prim.Native.Nat.{ℕ}
 use mathlib.Core.Path.{_≡_, refl, sym, ap, _∙_, subst}
 use mathlib.Core.List.{List, _++_}
 use native.Mathlib.Decide.{decLt}
@@ -16,12 +19,9 @@ use Rattle.model.specs.Refusals.{Tried, conditions}
 use Rattle.model.specs.Answer.{Accepted, Kept, Answered}
 use Rattle.model.proofs.Trying.{tried-one}
 use Rattle.optimum.specs.Passed.{Passed, Ruled, returned}
+use Rattle.optimum.specs.Demands.{SameAnswer}
 use Rattle.optimum.proofs.DemandTwo.{ruled-one, ruled-placement}
 use Rattle.optimum.proofs.Passing.{conditions-hold}
-
--- number, total, plan buffer and level buffer
-abbrev pub Same : ℕ → ℕ → List ℕ → List ℕ → ℕ → ℕ → List ℕ → List ℕ → Type 0
-Same n total plan levels n′ total′ plan′ levels′ = (n ≡ n′) × (total ≡ total′) × (plan ≡ plan′) × (levels ≡ levels′)
 
 module _ (job : Job) (plan₀ levels₀ : List ℕ) where
   accepted-once :
@@ -37,29 +37,30 @@ module _ (job : Job) (plan₀ levels₀ : List ℕ) where
         one .level-bytes ∙ ap (λ (f : List ℕ). levels job (shown job f) ++ drop (job .islands) levels₀) same ∙ sym (other .level-bytes),
       )
 
-  pub answered-once :
+  pub answer-once :
       (n n′ r r′ : ℕ) (p l p′ l′ : List ℕ)
       → Answered job plan₀ levels₀ n r p l
       → Answered job plan₀ levels₀ n′ r′ p′ l′
-      → Same n r p l n′ r′ p′ l′
-  answered-once n n′ r r′ p l p′ l′ one other =
+      → SameAnswer n r p l n′ r′ p′ l′
+  answer-once n n′ r r′ p l p′ l′ one other =
       let number : n ≡ n′ = tried-one (conditions job (length plan₀) (length levels₀)) n n′ (one .tried) (other .tried) in
       elim (decLt 0 n) [
         | yes refused ↦
             let kept : Kept plan₀ levels₀ r p l = one .refused refused in
-            let kept′ : Kept plan₀ levels₀ r′ p′ l′ = other .refused (omega arith) in (
-              number,
-              kept .no-total ∙ sym (kept′ .no-total),
-              kept .plan-kept ∙ sym (kept′ .plan-kept),
-              kept .levels-kept ∙ sym (kept′ .levels-kept),
-            )
+            let kept′ : Kept plan₀ levels₀ r′ p′ l′ = other .refused (omega arith) in
+            record {
+              number = number;
+              totals = kept .no-total ∙ sym (kept′ .no-total);
+              plans = kept .plan-kept ∙ sym (kept′ .plan-kept);
+              levels = kept .levels-kept ∙ sym (kept′ .levels-kept);
+            }
         | no planned ↦
             let none : n ≡ 0 = omega arith in
             let passed : Passed job =
             conditions-hold job (length plan₀) (length levels₀)
             (subst (λ (k : ℕ). Tried (conditions job (length plan₀) (length levels₀)) k) none (one .tried)) .0 in
             let rest = accepted-once r r′ p l p′ l′ passed (one .accepted none) (other .accepted (sym number ∙ none)) in
-            (number, rest .0, rest .1, rest .2)
+            record { number = number; totals = rest .0; plans = rest .1; levels = rest .2 }
       ]
 
   module _ (reported : ℕ) (planned leveled : List ℕ) (answer : Answered job plan₀ levels₀ 0 reported planned leveled) where

@@ -1,9 +1,9 @@
 -- No split of a run costs less than its best.
---     At            a list of loads stands at a place of the list of all loads
+--     at-start, at-front, at-behind, at-load, at-top, at-member    loads that stand at a place, and their parts
 --     best-below    the best of a run is at most the cost of every split of its loads
 --     fill-below    the same of the lowest members of an island with the gaps below them
 -- Assumes nothing.
-use Prim.Native.Nat.{ℕ, zero, suc, _+_, _-_, _*_, _≤_, _<_, zero-le}
+use Prim.Native.Nat.{ℕ, suc, _+_, _-_, _*_, _≤_, _<_, zero-le}
 use mathlib.Core.Path.{_≡_, refl, sym, ap, _∙_, subst}
 use mathlib.Core.List.{List, [], _∷_, _++_, append-assoc, append-nil}
 use native.Mathlib.Nat.{le-of-eq, le-trans, add-mul}
@@ -11,15 +11,12 @@ use native.Mathlib.Omega.{arith}
 use lib.ListN.{length, getD, drop, length-append, List·getD-append}
 use lib.Seq.{getD-drop, drop-drop, drop-append-seam, getD-append-seam}
 use Rattle.model.specs.Refusals.{lastOf}
+use Rattle.optimum.specs.Loads.{At}
 use Rattle.optimum.specs.Best.{itself, least, loadAt, topLoad, fill, gapCost, best}
 use Rattle.optimum.specs.Split.{Split, Fill}
 use Rattle.optimum.proofs.First.{least-below}
 use Rattle.optimum.proofs.Recurrence.{fill-member, best-none, best-is}
 use Rattle.optimum.proofs.Splits.{split-length, fill-length}
-
--- behind the first i loads stand those of us, and then others
-abbrev pub At : List ℕ → ℕ → List ℕ → Type 0
-At ws i us = (rest : List ℕ) × (drop i ws ≡ us ++ rest)
 
 pub at-start : (us : List ℕ) → At us 0 us
 at-start us = ([], sym (append-nil us))
@@ -36,12 +33,17 @@ at-behind ws i us vs at = (
 )
 
 -- the load at place k of us
-pub at-load : (ws : List ℕ) (i : ℕ) (us : List ℕ) (k : ℕ) → At ws i us → k < length us → getD ws (i + k) 0 ≡ getD us k 0
+at-load : (ws : List ℕ) (i : ℕ) (us : List ℕ) (k : ℕ) → At ws i us → k < length us → getD ws (i + k) 0 ≡ getD us k 0
 at-load ws i us k at h =
     sym (getD-drop i ws k 0) ∙ ap (λ (l : List ℕ). getD l k 0) (at .1) ∙ List·getD-append us (at .0) 0 k h
 
 -- the last load of a run is its top load
-pub at-top : (Q : ℕ) (ws : List ℕ) (i m r : ℕ) (us : List ℕ) → At ws i us → length us ≡ m * Q + suc r → suc r ≡ Q → lastOf us ≡ topLoad Q ws i m
+pub at-top :
+    (Q : ℕ) (ws : List ℕ) (i m r : ℕ) (us : List ℕ)
+    → At ws i us
+    → length us ≡ m * Q + suc r
+    → suc r ≡ Q
+    → lastOf us ≡ topLoad Q ws i m
 unfolding topLoad loadAt
 at-top Q ws i m r us at len q =
     let place : m * Q + (Q - 1) ≡ length us - 1 = omega arith in

@@ -2,7 +2,7 @@
 --     member-members    the members of an island with a further member, its gap and all below it
 --     gaps-lead         the chosen members lead those of every plan of the same shape that costs as little
 -- Assumes nothing.
-use Prim.Native.Nat.{ℕ, zero, suc, _+_, _-_, _*_, _≤_, _<_}
+use Prim.Native.Nat.{ℕ, suc, _+_, _-_, _*_, _≤_, _<_}
 use mathlib.Core.Path.{_≡_, refl, sym, ap, _∙_, subst}
 use mathlib.Core.Logic.{inr}
 use mathlib.Core.List.{List, [], _∷_, _++_}
@@ -13,20 +13,20 @@ use lib.ListN.{length, length-append}
 use Rattle.model.specs.Plan.{members}
 use Rattle.model.specs.Power.{power}
 use Rattle.model.specs.TieRule.{Leads}
-use Rattle.optimum.specs.Loads.{Sorted}
+use Rattle.optimum.specs.Loads.{Sorted, At}
 use Rattle.optimum.specs.Best.{least, loadAt, fill, gapCost, best}
 use Rattle.optimum.specs.Shape.{Run, Gaps}
 use Rattle.optimum.specs.Chosen.{chosen, planGaps, planRun}
 use Rattle.optimum.proofs.First.{first-before, least-below}
 use Rattle.optimum.proofs.Recurrence.{fill-member}
-use Rattle.optimum.proofs.BestSplit.{At, best-below, fill-below}
+use Rattle.optimum.proofs.BestSplit.{best-below, fill-below}
 use Rattle.optimum.proofs.Shapes.{run-length, gaps-length, gaps-end, run-outside}
-use Rattle.optimum.proofs.Members.{members-absent}
-use Rattle.optimum.proofs.Leading.{leads-same, leads-next, leads-first, members-last, members-member}
+use Rattle.optimum.proofs.Members.{members-absent, members-last, members-member}
+use Rattle.optimum.proofs.Leading.{leads-same, leads-next, leads-first}
 use Rattle.optimum.proofs.RunPower.{charged}
 use Rattle.optimum.proofs.Cuts.{Member, member-cut}
 use Rattle.optimum.proofs.RunSplit.{run-split, gaps-fill}
-use Rattle.optimum.proofs.ChosenRun.{chosen-within, gaps-lowest, gaps-member, gaps-chosen, run-chosen}
+use Rattle.optimum.proofs.ChosenRun.{chosen-within, gaps-lowest, gaps-member, gaps-run, run-chosen}
 
 module _ (Q : ℕ) where
   -- the one member of a plan with no other below it
@@ -40,7 +40,7 @@ module _ (Q : ℕ) where
       ∙ ap (λ (l : List ℕ). (p + length gap) ∷ l) (members-absent x p gap (run-outside Q base m gap run x (inr above)))
       ∙ ap (λ (n : ℕ). (p + n) ∷ []) (run-length Q base m gap run)
 
-  pub member-members :
+  member-members :
       (x p base s l g m : ℕ) (low gap : List ℕ)
       → Gaps Q x base s l low
       → Run Q (base + l) g gap
@@ -146,8 +146,7 @@ module _ (Q own : ℕ) (rate : ℕ → ℕ) (ws : List ℕ) (pos : 0 < Q) where
       let plan : ℕ → ℕ → List ℕ = planGaps Q ws (best Q own rate ws) (planRun Q own rate ws) ρ x i base in
       let within : k ≤ m = chosen-within Q ws (best Q own rate ws) ρ i s m in
       let shape : Gaps Q x base s (m - k) (plan s (m - k)) =
-      gaps-chosen Q ws (best Q own rate ws) (planRun Q own rate ws) ρ x i base s (m - k)
-      (λ j n h b. run-chosen Q own rate ws pos j n h) in
+      gaps-run Q own rate ws pos ρ x i base s (m - k) in
       let ours : members x p (plan r m) ≡ (p + (m * Q + suc s)) ∷ members x p (plan s (m - k)) =
       ap (λ (n : ℕ). members x p (plan n m)) more
       ∙ ap (λ (n : List ℕ). members x p n) (gaps-member Q ws (best Q own rate ws) (planRun Q own rate ws) ρ x i base s m)

@@ -9,18 +9,18 @@ use native.Mathlib.Nat.{le-refl, le-trans, not-suc-le-zero, sub-le, sub-add-canc
 use native.Mathlib.Omega.{arith}
 use lib.ListN.{length, length-append}
 use Rattle.model.specs.Power.{each, held, heaviest, sum, power}
-use Rattle.optimum.specs.Loads.{Sorted}
+use Rattle.optimum.specs.Loads.{Sorted, At}
 use Rattle.optimum.specs.Best.{itself, least, loadAt, topLoad, fill, gapCost, best}
 use Rattle.optimum.specs.Shape.{Run, Gaps}
 use Rattle.optimum.specs.Split.{Split}
 use Rattle.optimum.specs.Chosen.{chosen, planGaps, planRun}
 use Rattle.optimum.proofs.Recurrence.{fill-member, best-none, best-is}
-use Rattle.optimum.proofs.BestSplit.{At, at-top}
+use Rattle.optimum.proofs.BestSplit.{at-top}
 use Rattle.optimum.proofs.Shapes.{run-length, gaps-length}
 use Rattle.optimum.proofs.RunPower.{charged}
 use Rattle.optimum.proofs.Cuts.{Member, lowest-cut, member-cut}
 use Rattle.optimum.proofs.RunSplit.{gaps-heaviest, top-drawn, run-split}
-use Rattle.optimum.proofs.ChosenRun.{chosen-within, gaps-lowest, gaps-member, gaps-chosen, plan-none, plan-is, run-chosen}
+use Rattle.optimum.proofs.ChosenRun.{chosen-within, gaps-lowest, gaps-member, gaps-run, plan-is, run-chosen}
 
 module _ (Q own : ℕ) (rate : ℕ → ℕ) (ws : List ℕ) (pos : 0 < Q) where
   -- the plan of a run of v islands, over any numbers, draws the run's best
@@ -100,8 +100,7 @@ module _ (Q own : ℕ) (rate : ℕ → ℕ) (ws : List ℕ) (pos : 0 < Q) where
           let islands : m * Q ≡ l * Q + g * Q = ap (λ (n : ℕ). n * Q) (sym parts) ∙ add-mul l g Q in
           let gap = planRun Q own rate ws (i + (l * Q + suc r)) (base + l) g in
           let low-shape : Gaps Q x base r l (Low l) =
-          gaps-chosen Q ws (best Q own rate ws) (planRun Q own rate ws) ρ x i base r l
-          (λ j k h b. run-chosen Q own rate ws pos j k h) in
+          gaps-run Q own rate ws pos ρ x i base r l in
           let gap-shape : Run Q (base + l) g gap = run-chosen Q own rate ws pos (i + (l * Q + suc r)) (base + l) g in
           let plan = Low l ++ (gap ++ (x ∷ [])) in
           let places : length plan ≡ length us =
@@ -134,7 +133,7 @@ module _ (Q own : ℕ) (rate : ℕ → ℕ) (ws : List ℕ) (pos : 0 < Q) where
       let x = base + suc m in
       let plan = planGaps Q ws b (planRun Q own rate ws) (rate t) x i base (Q - 1) m in
       let shape : Gaps Q x base (Q - 1) m plan =
-      gaps-chosen Q ws b (planRun Q own rate ws) (rate t) x i base (Q - 1) m (λ j k h bound. run-chosen Q own rate ws pos j k h) in
+      gaps-run Q own rate ws pos (rate t) x i base (Q - 1) m in
       let members : suc (Q - 1) ≡ Q = omega arith in
       let places : length us ≡ m * Q + suc (Q - 1) = omega arith in
       let heavy : heaviest (held x plan us) ≡ t =

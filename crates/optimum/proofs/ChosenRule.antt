@@ -1,6 +1,7 @@
 -- The plan function meets the tie rule as the model states it.
---     loads-at        the loads of a run that lies within the list of loads
---     chosen-least    no plan without a crossing costs less than the chosen one, and it costs the run's best
+--     chosen-power    the chosen plan costs the run's best
+--     full-above      no full plan of the run costs less, crossing ones too
+--     chosen-least    so no plan without a crossing does
 --     chosen-taken    of those that cost as little, its top island's members lead
 --     chosen-rule     and every gap is settled by the same rule by itself
 -- Assumes nothing.
@@ -8,19 +9,20 @@ use Prim.Native.Nat.{ℕ, zero, suc, _+_, _-_, _*_, _/_, _≤_, _<_}
 use mathlib.Core.Path.{_≡_, refl, sym, ap, _∙_, subst}
 use mathlib.Core.Logic.{inl, inr}
 use mathlib.Core.List.{List, [], _∷_, _++_}
-use native.Mathlib.Nat.{le-refl, le-trans, le-of-eq, zero-lt-suc, not-suc-le-zero, sub-le, sub-add-cancel, add-mul, add-zero, mul-div-cancel, suc-inj}
+use native.Mathlib.Nat.{le-refl, le-trans, le-of-eq, zero-lt-suc, not-suc-le-zero, sub-le}
+use native.Mathlib.Nat.{sub-add-cancel, add-mul, add-zero, mul-div-cancel, suc-inj}
 use native.Mathlib.Omega.{arith}
-use lib.ListN.{length, take, drop, take-append-drop, length-take, length-drop}
+use lib.ListN.{length, take, drop, take-append-drop, length-drop}
 use lib.Seq.{length-take-le}
 use Rattle.model.specs.Plan.{Full, count, members}
 use Rattle.model.specs.Power.{held, heaviest, power}
-use Rattle.model.specs.TieRule.{Uncrossed, Leads, Gap, Least, Taken, ByRule}
-use Rattle.optimum.specs.Loads.{AtMost, Sorted, NeverFalls}
-use Rattle.optimum.specs.Best.{itself, topLoad, fill, best}
+use Rattle.model.specs.TieRule.{Leads, Gap, Least, Taken, ByRule}
+use Rattle.optimum.specs.Loads.{AtMost, Sorted, NeverFalls, At}
+use Rattle.optimum.specs.Best.{topLoad, fill, best}
 use Rattle.optimum.specs.Shape.{Run, Gaps}
 use Rattle.optimum.specs.Chosen.{chosen, planGaps, planRun}
 use Rattle.optimum.proofs.Recurrence.{best-is}
-use Rattle.optimum.proofs.BestSplit.{At, at-top}
+use Rattle.optimum.proofs.BestSplit.{at-top}
 use Rattle.optimum.proofs.Places.{full-length}
 use Rattle.optimum.proofs.Sortings.{sorted-front, sorted-back, most-front, most-back}
 use Rattle.optimum.proofs.Shapes.{run-length, gaps-length, gaps-end, gaps-top, run-outside}
@@ -30,7 +32,7 @@ use Rattle.optimum.proofs.GapParts.{gap-lowest, gap-member}
 use Rattle.optimum.proofs.FullBound.{power-front, best-bound}
 use Rattle.optimum.proofs.RunPower.{charged}
 use Rattle.optimum.proofs.RunSplit.{gaps-heaviest, top-drawn}
-use Rattle.optimum.proofs.ChosenRun.{chosen-within, gaps-lowest, gaps-member, gaps-chosen, plan-none, plan-is, run-chosen}
+use Rattle.optimum.proofs.ChosenRun.{chosen-within, gaps-lowest, gaps-member, gaps-run, plan-none, plan-is, run-chosen}
 use Rattle.optimum.proofs.ChosenPower.{run-power}
 use Rattle.optimum.proofs.ChosenLeads.{gaps-lead}
 
@@ -38,14 +40,14 @@ use Rattle.optimum.proofs.ChosenLeads.{gaps-lead}
 module _
     (Q own : ℕ) (rate : ℕ → ℕ) (ws : List ℕ) (limit : ℕ) (pos : 0 < Q) (rises : NeverFalls rate limit) (sorted : Sorted ws)
     (most : AtMost limit ws) where
-  pub record RunLoads (i v : ℕ) : Type 0 where
-    pub us : List ℕ
-    pub at : At ws i us
-    pub size : length us ≡ v * Q
-    pub us-sorted : Sorted us
-    pub us-most : AtMost limit us
+  record RunLoads (i v : ℕ) : Type 0 where
+    us : List ℕ
+    at : At ws i us
+    size : length us ≡ v * Q
+    us-sorted : Sorted us
+    us-most : AtMost limit us
 
-  pub loads-at : (i v : ℕ) → i + v * Q ≤ length ws → RunLoads i v
+  loads-at : (i v : ℕ) → i + v * Q ≤ length ws → RunLoads i v
   loads-at i v fits =
       let rest = drop i ws in
       let parts : take i ws ++ rest ≡ ws = take-append-drop i ws in
@@ -231,8 +233,7 @@ module _
           let p = planRun Q own rate ws (i + (l * Q + suc r)) (base + l) g in
           let run : Run Q (base + l) g p = run-chosen Q own rate ws pos (i + (l * Q + suc r)) (base + l) g in
           let shape : Gaps Q x base r l (Low l) =
-          gaps-chosen Q ws (best Q own rate ws) (planRun Q own rate ws) ρ x i base r l
-          (λ j k h b. run-chosen Q own rate ws pos j k h) in
+          gaps-run Q own rate ws pos ρ x i base r l in
           elim (gap-member x (Low l) p b c d (run-outside Q (base + l) g p run x (inr (omega arith)))
           (gaps-end Q x base r l (Low l) shape) here) [
             | inl found ↦

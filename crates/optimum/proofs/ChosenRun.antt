@@ -2,7 +2,7 @@
 --     plan-none, plan-is          the plan of no islands, and of m + 1 by those of smaller runs
 --     gaps-lowest, gaps-member    the gap walker, by its members
 --     chosen-within               a gap gets no more islands than there are
---     gaps-chosen, run-chosen     what it gives is run-shaped
+--     run-chosen, gaps-run        what they give is run-shaped
 -- Assumes nothing.
 use Prim.Native.Nat.{ℕ, zero, suc, _+_, _-_, _*_, _≤_, _<_}
 use mathlib.Core.Path.{_≡_, refl, sym, ap, _∙_, subst}
@@ -47,7 +47,7 @@ module _ (Q : ℕ) (ws : List ℕ) (b : ℕ → ℕ → ℕ) where
         ∙ ap (λ (l : List ℕ). l ++ (inner′ (i + ((m - g) * Q + suc r)) (base + (m - g)) g ++ (x ∷ [])))
         (gaps-same inner′ r (m - g) (λ j k h bound. same j k h (le-trans bound (sub-le m g))))
 
-    pub gaps-chosen :
+    gaps-chosen :
         (r m : ℕ)
         → ((j k g : ℕ) → g ≤ m → Run Q k g (inner j k g))
         → Gaps Q x base r m (planGaps Q ws b inner ρ x i base r m)
@@ -107,3 +107,11 @@ module _ (Q own : ℕ) (rate : ℕ → ℕ) (ws : List ℕ) where
 
   pub run-chosen : 0 < Q → (i base v : ℕ) → Run Q base v (planRun Q own rate ws i base v)
   run-chosen pos i base v = run-within pos v i base v (le-refl v)
+
+  -- the walker's plans too, over the runs that the function gives
+  pub gaps-run :
+      0 < Q
+      → (ρ x i base r m : ℕ)
+      → Gaps Q x base r m (planGaps Q ws (best Q own rate ws) (planRun Q own rate ws) ρ x i base r m)
+  gaps-run pos ρ x i base r m =
+      gaps-chosen Q ws (best Q own rate ws) (planRun Q own rate ws) ρ x i base r m (λ j k g bound. run-chosen pos j k g)

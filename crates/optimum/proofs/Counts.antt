@@ -4,8 +4,9 @@
 --     count-append               in two lists, one behind the other
 --     count-none                 an island that stands at no place is counted 0 times
 --     count-within               an island counted at least once stands at some place
+--     count-at                   the island that stands at a place is counted
+--     single-same, single-other  in a single entry
 --     count-first, count-last    the list, cut at its first or last place
---     count-length               no island is counted more often than there are places
 -- Assumes nothing.
 use Prim.Native.Nat.{ℕ, zero, suc, _+_, _≤_, _<_, zero-le}
 use mathlib.Core.Path.{_≡_, refl, ap, _∙_}
@@ -39,15 +40,6 @@ count-append z (y ∷ a) b =
     elim (ℕ-discrete y z) [
       | yes e ↦ omega (arith, count-same y z (a ++ b) e, count-same y z a e, count-append z a b)
       | no n ↦ omega (arith, count-other y z (a ++ b) n, count-other y z a n, count-append z a b)
-    ]
-
-pub count-length : (z : ℕ) (a : List ℕ) → count z a ≤ length a
-unfolding count
-count-length z [] = zero-le
-count-length z (y ∷ a) =
-    elim (ℕ-discrete y z) [
-      | yes e ↦ omega (arith, count-same y z a e, count-length z a)
-      | no n ↦ omega (arith, count-other y z a n, count-length z a)
     ]
 
 pub count-none : (z : ℕ) (a : List ℕ) → ((j : ℕ) → j < length a → ¬ (getD a j 0 ≡ z)) → count z a ≡ 0
@@ -91,3 +83,16 @@ count-last z (y ∷ a) h =
             | no n ↦ absurd (omega (arith, count-other y z a n))
           ]
     ]
+
+pub count-at : (a : List ℕ) (j : ℕ) → j < length a → 0 < count (getD a j 0) a
+count-at [] j h = absurd (not-suc-le-zero h)
+count-at (y ∷ a) zero h = omega (arith, count-same y y a refl)
+count-at (y ∷ a) (suc j) h = count-later y (getD a j 0) a (count-at a j (omega arith))
+
+pub single-same : (x z : ℕ) → x ≡ z → count z (x ∷ []) ≡ 1
+unfolding count
+single-same x z e = count-same x z [] e
+
+pub single-other : (x z : ℕ) → ¬ (x ≡ z) → count z (x ∷ []) ≡ 0
+unfolding count
+single-other x z n = count-other x z [] n

@@ -2,19 +2,19 @@
 --     Lowest, lowest-cut    the lowest member with its gap
 --     Member, member-cut    a member with its gap and all below it
 -- Assumes nothing.
-use Prim.Native.Nat.{ℕ, zero, suc, _+_, _*_, _≤_, _<_}
+use Prim.Native.Nat.{ℕ, suc, _+_, _*_, _<_}
 use mathlib.Core.Path.{_≡_, refl, sym, ap, _∙_, subst}
-use mathlib.Core.Logic.{_⊎_, inl, inr}
+use mathlib.Core.Logic.{inl, inr}
 use mathlib.Core.List.{List, [], _∷_, _++_}
 use native.Mathlib.Nat.{add-mul}
 use native.Mathlib.Omega.{arith}
 use lib.ListN.{length, getD}
 use Rattle.model.specs.Power.{power}
-use Rattle.optimum.specs.Loads.{Sorted}
+use Rattle.optimum.specs.Loads.{Sorted, At}
 use Rattle.optimum.specs.Best.{loadAt}
 use Rattle.optimum.specs.Shape.{Run, Gaps}
 use Rattle.optimum.proofs.Lists.{cut-at, cut-end}
-use Rattle.optimum.proofs.BestSplit.{At, at-front, at-behind, at-member}
+use Rattle.optimum.proofs.BestSplit.{at-front, at-behind, at-member}
 use Rattle.optimum.proofs.Shapes.{run-length, gaps-length, run-outside, gaps-outside}
 use Rattle.optimum.proofs.Sortings.{sorted-front, sorted-back}
 use Rattle.optimum.proofs.RunPower.{charged, charged-parts, charged-lowest}

@@ -11,8 +11,8 @@ use Rattle.model.specs.Table.{WellRanged}
 use Rattle.model.specs.Job.{Job}
 use Rattle.model.specs.Power.{total, workload}
 use Rattle.model.specs.Placement.{Placement}
-use Rattle.model.specs.Exact.{scale, exact}
-use Rattle.optimum.proofs.ExactPower.{WholeCosts, exact-covered, exact-close, exact-idle, exact-whole}
+use Rattle.model.specs.Exact.{scale, exact, WholeCosts}
+use Rattle.optimum.proofs.ExactPower.{exact-covered, exact-close, exact-idle, exact-whole}
 
 module _
     (job : Job) (ranged : WellRanged (job .table)) (plan other : List ℕ) (placed : Placement job plan)

@@ -1,35 +1,35 @@
 -- Demand 2 over the model's placements: no placement has a lower total than the plan by the rule.
 --     charge-rises      the table's charge never falls, up to the last frequency
 --     plan-ruled        the plan function meets the tie rule
+--     plan-total        what is shown of it has the job's best as its total
 --     ruled-one         two plans by the rule are equal
---     ruled-full        a plan by the rule is full, numbered and without a crossing
+--     ruled-uncrossed   a plan by the rule is full, numbered and without a crossing
 --     ruled-placement   what is shown of it is a placement
 --     ruled-total       its total is the job's best
 --     placement-above   no placement has a lower total than the best
 --     ruled-least       so none has a lower total than the plan by the rule
 -- Assumes nothing.
-use Prim.Native.Nat.{ℕ, suc, _+_, _*_, _≤_, _<_}
-use mathlib.Core.Path.{_≡_, refl, sym, ap, _∙_, subst}
+use Prim.Native.Nat.{ℕ, _+_, _*_, _≤_, _<_}
+use mathlib.Core.Path.{_≡_, sym, ap, _∙_, subst}
 use mathlib.Core.List.{List, _++_}
-use native.Mathlib.Nat.{le-trans, le-of-eq, le-refl}
+use native.Mathlib.Nat.{le-trans, le-of-eq}
 use native.Mathlib.Omega.{arith}
-use lib.ListN.{length, drop, replicate}
+use lib.ListN.{length}
 use Rattle.model.specs.Level.{charge}
 use Rattle.model.specs.Job.{Job}
-use Rattle.model.specs.Power.{power, own, total}
+use Rattle.model.specs.Power.{own, total}
 use Rattle.model.specs.Placement.{Placement}
-use Rattle.model.specs.Plan.{Full, padding, padded, shown}
-use Rattle.model.specs.TieRule.{Uncrossed, ByRule}
+use Rattle.model.specs.Plan.{padding, padded, shown}
+use Rattle.model.specs.TieRule.{Uncrossed}
 use Rattle.model.specs.Refusals.{lastOf}
 use Rattle.model.proofs.Levels.{last-fast}
 use Rattle.model.proofs.Charge.{charge-never-falls}
 use Rattle.optimum.specs.Loads.{AtMost, Sorted, NeverFalls}
-use Rattle.optimum.specs.Best.{best}
-use Rattle.optimum.specs.Chosen.{planRun, planOf}
-use Rattle.optimum.specs.Passed.{WellFormed, Passed, Ruled}
-use Rattle.optimum.proofs.Padding.{power-padded, placement-padded, padded-sorted, padded-within, padded-length}
+use Rattle.optimum.specs.OfJob.{bestOf, planOf}
+use Rattle.optimum.specs.Passed.{Passed, Ruled}
+use Rattle.optimum.proofs.Padding.{power-padded, padded-sorted, padded-within, padded-length}
+use Rattle.optimum.proofs.Placements.{placement-padded}
 use Rattle.optimum.proofs.Shown.{shown-power, shown-placement}
-use Rattle.optimum.proofs.Shapes.{run-full}
 use Rattle.optimum.proofs.RunUncrossed.{run-uncrossed}
 use Rattle.optimum.proofs.RuleOne.{rule-one}
 use Rattle.optimum.proofs.ChosenRun.{run-chosen}
@@ -69,8 +69,8 @@ module _ (job : Job) (passed : Passed job) where
       run-uncrossed (job .cores) 0 (job .islands) (planOf job)
       (run-chosen (job .cores) (own job) (charge (job .table)) (padded job) some-core 0 0 (job .islands))
 
-  plan-total : total job (shown job (planOf job)) ≡ best (job .cores) (own job) (charge (job .table)) (padded job) 0 (job .islands)
-  unfolding total planOf
+  pub plan-total : total job (shown job (planOf job)) ≡ bestOf job
+  unfolding total planOf bestOf
   plan-total =
       sym (shown-power job (planOf job) (plan-uncrossed .full) (passed .few) (own job) (charge (job .table)))
       ∙ chosen-power (job .cores) (own job) (charge (job .table)) (padded job) (lastOf (job .table .frequencies)) some-core charge-rises
@@ -79,8 +79,8 @@ module _ (job : Job) (passed : Passed job) where
   pub placement-above :
       (other : List ℕ)
       → Placement job other
-      → best (job .cores) (own job) (charge (job .table)) (padded job) 0 (job .islands) ≤ total job other
-  unfolding total padded
+      → bestOf job ≤ total job other
+  unfolding total padded bestOf
   placement-above other placed =
       let pad = placement-padded job other placed in
       le-trans
@@ -101,7 +101,7 @@ module _ (job : Job) (passed : Passed job) where
         (passed .slow)
 
     pub ruled-total :
-        total job (shown job full) ≡ best (job .cores) (own job) (charge (job .table)) (padded job) 0 (job .islands)
+        total job (shown job full) ≡ bestOf job
     ruled-total = ap (λ (l : List ℕ). total job (shown job l)) (sym ruled-plan) ∙ plan-total
 
     pub ruled-least : (other : List ℕ) → Placement job other → total job (shown job full) ≤ total job other

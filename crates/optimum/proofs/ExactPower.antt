@@ -1,5 +1,4 @@
 -- The total of a placement beside its exact power, both times the product of all the table's frequencies.
---     WholeCosts       where all costs are whole
 --     exact-covered    the total is no smaller than the exact power
 --     exact-close      and it is larger by less than the workload
 --     exact-idle       where the workload is 0, they are equal
@@ -7,30 +6,26 @@
 -- Assumes nothing.
 use Prim.Native.Nat.{ℕ, _+_, _*_, _≤_, _<_}
 use mathlib.Core.Path.{_≡_, sym, ap, _∙_}
-use mathlib.Core.List.{List, [], _∷_}
-use native.Mathlib.Nat.{mul-zero, mul-add, mul-le-mul-right, suc-ne-zero, suc-inj}
+use mathlib.Core.List.{List}
+use native.Mathlib.Nat.{mul-zero, mul-le-mul-right}
 use native.Mathlib.Decide.{decLt}
 use native.Mathlib.Omega.{arith}
 use borrow.Author.Tests.{lt-ltb, le-ltb}
-use lib.ListN.{length, getD}
-use Rattle.model.specs.Limits.{million}
-use Rattle.model.specs.Table.{Table, WellRanged}
+use lib.ListN.{length}
+use Rattle.model.specs.Table.{WellRanged}
 use Rattle.model.specs.Level.{levelOf, cost, charge}
 use Rattle.model.specs.Job.{Job}
 use Rattle.model.specs.Power.{held, heaviest, sum, active, drawn, power, own, total, workload}
 use Rattle.model.specs.Placement.{Placement}
-use Rattle.model.specs.Exact.{exactCost, scale, exact}
+use Rattle.model.specs.Exact.{exactCost, scale, exact, WholeCosts}
 use Rattle.model.proofs.Levels.{lowest-within}
 use Rattle.optimum.specs.Best.{itself}
-use Rattle.optimum.proofs.Counts.{count-within}
+use Rattle.optimum.specs.Fair.{over}
 use Rattle.optimum.proofs.Held.{heaviest-nothing, drawn-is}
-use Rattle.optimum.proofs.Spread.{islands, over, weighed, each-over, islands-once, over-sum, over-le, over-scaled, spread}
+use Rattle.optimum.proofs.Spread.{islands, each-over, over-sum, over-le, over-scaled}
+use Rattle.optimum.proofs.Places.{held-workload}
+use Rattle.optimum.proofs.Placements.{placement-named}
 use Rattle.optimum.proofs.ExactCost.{cost-above, cost-near, cost-whole}
-
--- "where all costs are whole"
-abbrev pub WholeCosts : Table → Type 0
-WholeCosts t =
-    (k : ℕ) → k < length (t .frequencies) → (c : ℕ) × (getD (t .powers) k 0 * million ≡ c * getD (t .frequencies) k 0)
 
 -- the loads on an inactive island add up to 0, so what is said of a rate need hold on active ones only
 loaded : (a b : ℕ) (us : List ℕ) → (0 < heaviest us → a ≤ b) → a * sum us ≤ b * sum us
@@ -67,14 +62,6 @@ module _ (h s : ℕ) (rate fine : ℕ → ℕ) (us : List ℕ) where
       let all = loaded (rate (heaviest us) * s + g) (fine (heaviest us) + d) us near in
       omega (arith, rounded, drawn-is (h * s) fine us, all)
 
-weighed-flat : (g : ℕ) (a us : List ℕ) → length a ≡ length us → weighed (λ z. g) a us ≡ g * sum us
-unfolding weighed sum
-weighed-flat g [] [] e = sym (mul-zero g)
-weighed-flat g [] (u ∷ us) e = absurd (suc-ne-zero _ (sym e))
-weighed-flat g (y ∷ a) [] e = absurd (suc-ne-zero _ e)
-weighed-flat g (y ∷ a) (u ∷ us) e =
-    ap (λ (n : ℕ). g * u + n) (weighed-flat g a us (suc-inj e)) ∙ sym (mul-add g u (sum us))
-
 module _ (job : Job) (ranged : WellRanged (job .table)) (plan : List ℕ) (placed : Placement job plan) where
   abbrev loadsOn : ℕ → List ℕ
   loadsOn z = held z plan (job .loads)
@@ -89,12 +76,7 @@ module _ (job : Job) (ranged : WellRanged (job .table)) (plan : List ℕ) (place
   shared : (g : ℕ) → over (λ z. g * sum (loadsOn z)) (islands 0 (job .islands)) ≡ g * workload job
   unfolding workload
   shared g =
-      spread (λ z. g) (islands 0 (job .islands)) plan (job .loads)
-      (λ z some.
-      let at = count-within z plan some in
-      let range = placed .islands (at .0) (at .1) in
-      islands-once 0 (job .islands) z (omega (arith, at .2, range)) (omega (arith, at .2, range)))
-      ∙ weighed-flat g plan (job .loads) (placed .one-a-load)
+      held-workload g 0 (job .islands) plan (job .loads) (placement-named job plan placed) (placed .one-a-load)
 
   abbrev fine : ℕ → ℕ
   fine w = exactCost (job .table) (levelOf (job .table) w)

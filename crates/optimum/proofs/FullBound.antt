@@ -5,22 +5,23 @@
 --     fair-bound      no fair assignment of a run's loads draws less than the run's best
 --     best-bound      no full plan of a run does
 -- Assumes nothing.
-use Prim.Native.Nat.{ℕ, zero, suc, _+_, _*_, _≤_, _<_}
+use Prim.Native.Nat.{ℕ, _+_, _*_, _≤_, _<_}
 use mathlib.Core.Path.{_≡_, refl, sym, ap, _∙_}
-use mathlib.Core.List.{List, [], _∷_, _++_, append-nil}
+use mathlib.Core.List.{List, [], _++_, append-nil}
 use native.Mathlib.Nat.{one-mul, zero-mul, le-trans, le-of-eq}
 use native.Mathlib.Decide.{decLt}
 use native.Mathlib.Omega.{arith}
 use lib.ListN.{length}
 use Rattle.model.specs.Plan.{count, Full}
-use Rattle.model.specs.Power.{each, held, heaviest, sum, drawn, power}
-use Rattle.optimum.specs.Loads.{AtMost, Sorted, NeverFalls}
+use Rattle.model.specs.Power.{held, heaviest, sum, drawn, power}
+use Rattle.optimum.specs.Loads.{AtMost, Sorted, NeverFalls, At}
 use Rattle.optimum.specs.Best.{itself, best}
-use Rattle.optimum.specs.Fair.{Fair}
+use Rattle.optimum.specs.Fair.{Fair, over}
 use Rattle.optimum.proofs.Held.{held-append, drawn-is}
-use Rattle.optimum.proofs.Spread.{islands, over, weighed, each-over, islands-below, islands-once, islands-above, islands-length, over-same, over-sum, spread}
-use Rattle.optimum.proofs.Places.{named-within, full-length}
-use Rattle.optimum.proofs.BestSplit.{At, best-below}
+use Rattle.optimum.proofs.Spread.{islands, weighed, each-over, islands-below, islands-once, islands-above}
+use Rattle.optimum.proofs.Spread.{islands-length, over-same, over-sum, spread}
+use Rattle.optimum.proofs.Places.{named-within, full-length, power-same}
+use Rattle.optimum.proofs.BestSplit.{best-below}
 use Rattle.optimum.proofs.LowerBound.{fair-full, fair-named, lower-bound}
 
 pub full-fair : (Q base v : ℕ) (plan : List ℕ) → Full Q base v plan → Fair Q (islands base v) plan
@@ -70,18 +71,14 @@ drawn-spread own rate zs plan us once =
 module _ (own : ℕ) (rate : ℕ → ℕ) (base v : ℕ) (plan us : List ℕ) where
   pub power-front :
       (vs : List ℕ) → length plan ≡ length us → power own rate base v plan (us ++ vs) ≡ power own rate base v plan us
-  unfolding power held
+  unfolding held
   power-front vs len =
-      each-over (λ z. drawn own rate (held z plan (us ++ vs))) base v
-      ∙ over-same (λ z. drawn own rate (held z plan (us ++ vs))) (λ z. drawn own rate (held z plan us)) (islands base v)
-      (λ z some. ap (λ (l : List ℕ). drawn own rate l) (front z))
-      ∙ sym (each-over (λ z. drawn own rate (held z plan us)) base v)
-    where
-      front : (z : ℕ) → held z plan (us ++ vs) ≡ held z plan us
-      front z =
-          ap (λ (l : List ℕ). held z l (us ++ vs)) (sym (append-nil plan))
-          ∙ held-append z plan [] us vs len
-          ∙ append-nil (held z plan us)
+      power-same own rate base v plan (us ++ vs) plan us
+      (λ z low high.
+      ap (λ (l : List ℕ). drawn own rate l)
+      (ap (λ (l : List ℕ). held z l (us ++ vs)) (sym (append-nil plan))
+      ∙ held-append z plan [] us vs len
+      ∙ append-nil (held z plan us)))
 
 -- loads that come lightest first, none above the limit, up to which the charge never falls
 module _ (Q own : ℕ) (rate : ℕ → ℕ) (ws : List ℕ) (limit : ℕ) (pos : 0 < Q) (rises : NeverFalls rate limit) where

@@ -1,6 +1,7 @@
 -- Which gaps a list of gaps and members has.
 --     gap-lowest    in one gap and the member behind it: this gap alone
 --     gap-member    in a lower part, a gap and the member behind it: this gap, and those of the lower part
+--     Start, end-some    a gap starts at the first place or behind a member; an end of such a list has a member or is empty
 -- Assumes nothing.
 use Prim.Native.Nat.{ℕ, _<_}
 use mathlib.Core.Path.{_≡_, refl, sym, ap, subst, _∙_}
@@ -10,9 +11,8 @@ use native.Mathlib.Omega.{arith}
 use lib.ListN.{length, length-append}
 use Rattle.model.specs.Plan.{count}
 use Rattle.model.specs.TieRule.{Gap}
-use Rattle.optimum.proofs.Counts.{count-same, count-append, count-first}
+use Rattle.optimum.proofs.Counts.{count-same, count-append, count-first, single-same}
 use Rattle.optimum.proofs.Lists.{cons-same, cut-twice, cut-last}
-use Rattle.optimum.proofs.Shapes.{alone-same}
 
 -- the place of the first x is one
 first-cut : (x : ℕ) (a c d e : List ℕ) → count x a ≡ 0 → count x c ≡ 0 → a ++ (x ∷ d) ≡ c ++ (x ∷ e) → a ≡ c
@@ -32,14 +32,14 @@ abbrev Start : ℕ → List ℕ → Type 0
 Start x b = (b ≡ []) ⊎ ((e : List ℕ) × (b ≡ e ++ (x ∷ [])))
 
 -- an end of what ends with x has an x, unless it is empty
-end-some : (x : ℕ) (p q : List ℕ) → Start x (p ++ q) → 0 < length q → 0 < count x q
+pub end-some : (x : ℕ) (p q : List ℕ) → Start x (p ++ q) → 0 < length q → 0 < count x q
 end-some x p q (inl none) some =
     let empty : length (p ++ q) ≡ 0 = ap (λ (l : List ℕ). length l) none in
     absurd (omega (arith, length-append p q))
 end-some x p q (inr last) some =
     let (e, whole, ends) = cut-last (last .0) x p q (sym (last .1)) some in
     let sum : count x q ≡ count x (e ++ (x ∷ [])) = ap (count x) ends in
-    omega (arith, count-append x e (x ∷ []), alone-same x x refl)
+    omega (arith, count-append x e (x ∷ []), single-same x x refl)
 
 -- a gap that starts behind the lower part is the gap there: in front of its x no place is behind an x
 gap-behind :
@@ -59,7 +59,7 @@ gap-behind x low gap (y ∷ e) c d none free start same =
       count-append x gap (x ∷ []),
       count-append x (y ∷ e) (c ++ (x ∷ d)),
       count-append x c (x ∷ d),
-      alone-same x x refl,
+      single-same x x refl,
       count-same x x d refl,
     ))
 

@@ -1,13 +1,14 @@
 -- To gather an island's positions at the end of a stretch never costs more, if no other island there has a lower weight.
 --     without           a list of islands, without one of them
---     count-without, length-without, over-without    how often the others stand, how long it is, and a sum over it
+--     count-without-same, count-without-other, length-without    how often islands stand in it, and how long it is
+--     over-without      a sum over the list, by one island and the rest
 --     slide             the stretch moves down by one position, and a load of the least weight from its first position to its last
 --     gather            all positions of the island, moved to the end
 -- Assumes nothing.
-use Prim.Native.Nat.{ℕ, zero, suc, _+_, _*_, _≤_, _<_, zero-le}
+use Prim.Native.Nat.{ℕ, _+_, _*_, _≤_, _<_, zero-le}
 use mathlib.Core.Path.{_≡_, refl, sym, ap, _∙_}
 use mathlib.Core.Bool.{cond}
-use mathlib.Core.List.{List, [], _∷_, _++_}
+use mathlib.Core.List.{List, [], _∷_}
 use native.Mathlib.Nat.{not-suc-le-zero, le-of-suc-le-suc, suc-inj, suc-ne-zero, le-refl, le-of-eq, le-trans, lt-of-lt-of-le, le-dest}
 use native.Mathlib.Decide.{ℕ-discrete}
 use native.Mathlib.Omega.{arith}
@@ -17,9 +18,10 @@ use lib.ListN.{length, getD, drop}
 use lib.Seq.{drop-cons}
 use Rattle.model.specs.Plan.{count}
 use Rattle.model.specs.Power.{sum}
-use Rattle.optimum.specs.Loads.{AtLeast, Sorted}
-use Rattle.optimum.proofs.Counts.{count-same, count-other, count-later, count-append}
-use Rattle.optimum.proofs.Spread.{over, weighed}
+use Rattle.optimum.specs.Loads.{Sorted}
+use Rattle.optimum.specs.Fair.{over}
+use Rattle.optimum.proofs.Counts.{count-same, count-other, count-later}
+use Rattle.optimum.proofs.Spread.{weighed}
 
 unfoldable pub without : ℕ → List ℕ → List ℕ
 without x [] = []
@@ -100,7 +102,7 @@ exchange w weight u u′ h k =
     let up = le-dest k in
     rw (← more .1, ← up .1) (omega arith)
 
-pub slide :
+slide :
     (weight : ℕ → ℕ) (w : ℕ) (l : List ℕ) (u : ℕ) (us : List ℕ)
     → Sorted (u ∷ us)
     → length l ≤ length us

@@ -7,15 +7,13 @@
 --     heaviest-nothing           where the heaviest load is 0, so is the sum
 --     drawn-is                   what an island draws, without a case for inactive ones
 -- Assumes nothing.
-use Prim.Native.Nat.{ℕ, zero, suc, _+_, _*_, max, _≤_, _<_}
+use Prim.Native.Nat.{ℕ, suc, _+_, _*_, max, _≤_}
 use mathlib.Core.Path.{_≡_, refl, sym, ap, _∙_}
-use mathlib.Core.Bool.{cond}
 use mathlib.Core.List.{List, [], _∷_, _++_}
-use native.Mathlib.Nat.{zero-add, add-zero, add-assoc, mul-zero, suc-ne-zero, suc-inj, le-of-suc-le-suc, not-suc-le-zero, zero-max, le-max-left, le-max-right}
+use native.Mathlib.Nat.{zero-add, mul-zero, suc-ne-zero, suc-inj, le-of-suc-le-suc, not-suc-le-zero, zero-max, le-max-left, le-max-right}
 use native.Mathlib.Decide.{ℕ-discrete, decLt}
 use native.Mathlib.Omega.{arith}
 use borrow.Author.Tests.{eq-eqb, ne-eqb, lt-ltb, le-ltb}
-use lib.Dec.{ltb}
 use lib.ListN.{length}
 use Rattle.model.specs.Plan.{count}
 use Rattle.model.specs.Power.{held, heaviest, sum, active, drawn}

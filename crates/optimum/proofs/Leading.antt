@@ -1,23 +1,17 @@
--- Which of two lists of members leads, and the members of a list that ends with one.
+-- Which of two lists of members leads.
 --     leads-same        equal lists lead each other
 --     leads-next        behind equal first entries, the rests decide
 --     leads-first       the greater first entry leads
 --     leads-one         lists of one length that lead each other are equal
---     members-last      of a list, with one more member behind it
---     members-member    of a lower part, a gap and the member behind it
 -- Assumes nothing.
-use Prim.Native.Nat.{ℕ, zero, suc, _+_, _<_}
-use mathlib.Core.Path.{_≡_, refl, sym, ap, _∙_}
-use mathlib.Core.List.{List, [], _∷_, _++_, append-assoc}
+use Prim.Native.Nat.{ℕ, zero, suc, _<_}
+use mathlib.Core.Path.{_≡_, sym, ap}
+use mathlib.Core.List.{List, _∷_}
 use native.Mathlib.Nat.{le-antisymm, not-suc-le-zero}
 use native.Mathlib.Omega.{arith}
-use borrow.Author.Tests.{eq-eqb}
-use lib.ListN.{length, getD, length-append}
+use lib.ListN.{length, getD}
 use lib.Seq.{ext-getD}
-use Rattle.model.specs.Plan.{count, members}
 use Rattle.model.specs.TieRule.{Leads}
-use Rattle.optimum.proofs.Lists.{cons-same}
-use Rattle.optimum.proofs.Members.{members-append, members-absent}
 
 pub leads-same : (l m : List ℕ) → l ≡ m → Leads l m
 leads-same l m e j agree = omega (arith, ap (λ (a : List ℕ). getD a j 0) e)
@@ -38,23 +32,3 @@ leads-one l m same first second = ext-getD 0 l m same (agree (length l))
     agree zero k h = absurd (not-suc-le-zero h)
     agree (suc n) k h =
         le-antisymm (second k (λ i b. sym (agree n i (omega arith)))) (first k (λ i b. agree n i (omega arith)))
-
-members-alone : (x p : ℕ) → members x p (x ∷ []) ≡ p ∷ []
-unfolding members
-members-alone x p = rw (eq-eqb x x refl)
-
-pub members-last : (x p : ℕ) (c : List ℕ) → members x p (c ++ (x ∷ [])) ≡ (p + length c) ∷ members x p c
-members-last x p c =
-    members-append x p c (x ∷ []) ∙ ap (λ (l : List ℕ). l ++ members x p c) (members-alone x (p + length c))
-
-pub members-member :
-    (x p : ℕ) (low gap : List ℕ)
-    → count x gap ≡ 0
-    → members x p (low ++ (gap ++ (x ∷ []))) ≡ (p + (length low + length gap)) ∷ members x p low
-members-member x p low gap none =
-    ap (members x p) (sym (append-assoc low gap (x ∷ [])))
-    ∙ members-last x p (low ++ gap)
-    ∙ cons-same (p + length (low ++ gap)) (p + (length low + length gap)) (members x p (low ++ gap)) (members x p low)
-    (omega (arith, length-append low gap))
-    (members-append x p low gap
-    ∙ ap (λ (l : List ℕ). l ++ members x p low) (members-absent x (p + length low) gap none))

@@ -1,37 +1,50 @@
+-- The proofs, in the order in which they build on each other. Promises is the page to open first.
+
+-- lists, counts and sums
+pub mod Lists
 pub mod Counts
 pub mod Held
 pub mod Spread
-pub mod Lists
+pub mod Places
+pub mod Sortings
+pub mod Ordering
+-- no fair assignment is cheaper than the best split
 pub mod First
 pub mod Recurrence
 pub mod Splits
 pub mod BestSplit
-pub mod Sortings
 pub mod Gather
 pub mod LowerBound
-pub mod Places
-pub mod Padding
-pub mod Shown
+pub mod FullBound
+-- run-shaped plans are the plans without a crossing
 pub mod Shapes
 pub mod Members
+pub mod Subsequence
+pub mod Untangled
 pub mod RunUncrossed
 pub mod UncrossedRun
-pub mod Leading
-pub mod GapParts
-pub mod RuleOne
-pub mod FullBound
+pub mod HighestOne
+-- the plan function attains the best and meets the tie rule, and no other plan does
 pub mod RunPower
 pub mod Cuts
 pub mod RunSplit
 pub mod ChosenRun
 pub mod ChosenPower
+pub mod Leading
 pub mod ChosenLeads
+pub mod GapParts
 pub mod ChosenRule
+pub mod RuleOne
+-- from full plans to placements, from rounded costs to exact ones, and from there to answers
+pub mod Padding
+pub mod Placements
+pub mod Shown
 pub mod DemandTwo
-pub mod Passing
 pub mod ExactCost
 pub mod ExactPower
 pub mod DemandThree
+pub mod Passing
 pub mod Answering
 pub mod Returned
+pub mod Promises
 pub mod Examples

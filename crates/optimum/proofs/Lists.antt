@@ -4,9 +4,10 @@
 --     cut-twice       one list, cut at two places: the one cut stands within a part of the other
 --     cut-last        the same where the second part of the one is a single entry
 --     cut-at, cut-end    as many loads as positions, cut where the positions are
+--     end-one         lists that are equal with one more entry behind each
 --     last-append     the last entry of two lists, one behind the other
 -- Assumes nothing.
-use Prim.Native.Nat.{ℕ, zero, suc, _+_, _-_, _≤_, _<_}
+use Prim.Native.Nat.{ℕ, suc, _+_, _-_, _<_}
 use mathlib.Core.Path.{_≡_, refl, sym, ap, _∙_}
 use mathlib.Core.Logic.{_⊎_, inl, inr}
 use mathlib.Core.List.{List, [], _∷_, _++_, nil≢cons, head-eq-of-cons-eq, tail-eq-of-cons-eq, append-assoc}
@@ -82,3 +83,11 @@ cut-end a x ws len =
     single [] e = absurd (suc-ne-zero 0 e)
     single (w ∷ []) e = (w, refl)
     single (w ∷ u ∷ vs) e = absurd (suc-ne-zero _ (suc-inj (sym e)))
+
+pub end-one : (a b : List ℕ) (x y : ℕ) → a ++ (x ∷ []) ≡ b ++ (y ∷ []) → (a ≡ b) × (x ≡ y)
+end-one [] [] x y same = (refl, head-eq-of-cons-eq same)
+end-one [] (z ∷ b) x y same = absurd (longer b y [] (tail-eq-of-cons-eq same))
+end-one (z ∷ a) [] x y same = absurd (longer a x [] (sym (tail-eq-of-cons-eq same)))
+end-one (z ∷ a) (w ∷ b) x y same =
+    let rest = end-one a b x y (tail-eq-of-cons-eq same) in
+    (cons-same z w a b (head-eq-of-cons-eq same) (rest .0), rest .1)

@@ -1,28 +1,30 @@
 -- The lower bound: every fair assignment of sorted loads costs at least as much as some split of them.
+--     fair-full, fair-named    an island of the list has Q positions, and one that has any is of the list
 --     lower-bound    over any list of islands, each with a figure that is the heaviest load on it
 -- The first island to hold its Q-th position is gathered, its positions are taken out, and put back into a split of the rest.
 -- Assumes nothing.
 use Prim.Native.Nat.{ℕ, zero, suc, _+_, _*_, max, _≤_, _<_, zero-le}
 use mathlib.Core.Path.{_≡_, refl, sym, ap, _∙_, subst}
 use mathlib.Core.List.{List, [], _∷_, _++_, append-assoc, append-nil}
-use native.Mathlib.Nat.{add-zero, one-mul, not-suc-le-zero, suc-inj, suc-ne-zero, le-of-eq, le-trans, lt-of-lt-of-le, zero-lt-suc, max-zero, min-eq-left}
+use native.Mathlib.Nat.{add-zero, one-mul, not-suc-le-zero, suc-ne-zero, le-of-eq, le-trans}
+use native.Mathlib.Nat.{lt-of-lt-of-le, zero-lt-suc, max-zero, min-eq-left}
 use native.Mathlib.Decide.{ℕ-discrete, decLt}
 use native.Mathlib.Omega.{arith}
 use lib.ListN.{length, take, drop, length-append, length-take, length-drop, take-append-drop}
-use lib.Seq.{getD-append-seam}
 use Rattle.model.specs.Plan.{count}
 use Rattle.model.specs.Power.{held, heaviest, sum}
 use Rattle.model.specs.Refusals.{lastOf}
 use Rattle.optimum.specs.Loads.{AtLeast, AtMost, Sorted, NeverFalls}
 use Rattle.optimum.specs.Best.{itself}
 use Rattle.optimum.specs.Split.{Split}
-use Rattle.optimum.specs.Fair.{Fair}
+use Rattle.optimum.specs.Fair.{Fair, over}
 use Rattle.optimum.proofs.Counts.{count-same, count-other, count-append}
 use Rattle.optimum.proofs.Held.{held-append, held-absent, heaviest-append}
 use Rattle.optimum.proofs.Lists.{cut-at, cut-end, last-append}
-use Rattle.optimum.proofs.Spread.{over, weighed, weighed-append}
+use Rattle.optimum.proofs.Spread.{weighed, weighed-append}
 use Rattle.optimum.proofs.Splits.{block, insertion}
-use Rattle.optimum.proofs.Sortings.{sorted-front, sorted-back, sorted-taken-out, most-taken-out, heaviest-at-least, heaviest-at-most, heaviest-later, top-heaviest}
+use Rattle.optimum.proofs.Sortings.{sorted-front, sorted-back, sorted-taken-out, most-taken-out, heaviest-at-least}
+use Rattle.optimum.proofs.Sortings.{heaviest-at-most, heaviest-later, top-heaviest}
 use Rattle.optimum.proofs.Gather.{without, count-without-same, count-without-other, length-without, over-without, gather}
 
 -- the list up to the first place at which an island has Q positions: the island x, and what stands behind it
@@ -76,17 +78,17 @@ module _ (Q : ℕ) (zs plan : List ℕ) (fair : Fair Q zs plan) (z : ℕ) where
 
 module _ (Q own : ℕ) (rate : ℕ → ℕ) (limit : ℕ) (pos : 0 < Q) (rises : NeverFalls rate limit) where
   -- what is to be shown of islands zs, positions and loads; `top` gives each island's heaviest load
-  abbrev pub Bounded : ℕ → (ℕ → ℕ) → List ℕ → List ℕ → List ℕ → Type 0
+  abbrev Bounded : ℕ → (ℕ → ℕ) → List ℕ → List ℕ → List ℕ → Type 0
   Bounded v top zs plan ws =
       (c : ℕ)
       × Split Q own rate ws v c
       × (c ≤ over (λ z. itself own (top z)) zs + weighed (λ z. rate (top z)) plan ws)
 
   -- each island's heaviest load
-  abbrev pub Tops : (ℕ → ℕ) → List ℕ → List ℕ → List ℕ → Type 0
+  abbrev Tops : (ℕ → ℕ) → List ℕ → List ℕ → List ℕ → Type 0
   Tops top zs plan ws = (z : ℕ) → 0 < count z zs → top z ≡ heaviest (held z plan ws)
 
-  abbrev pub Claim : ℕ → (ℕ → ℕ) → List ℕ → List ℕ → List ℕ → Type 0
+  abbrev Claim : ℕ → (ℕ → ℕ) → List ℕ → List ℕ → List ℕ → Type 0
   Claim v top zs plan ws =
       length zs ≡ v
       → Fair Q zs plan

@@ -2,6 +2,9 @@
 --     members-append              in two lists, one behind the other
 --     members-absent              an island that is counted 0 times has none
 --     members-length              an island has as many as it is counted
+--     members-first               of a list, cut at its first member
+--     members-last                of a list, with one more member behind it
+--     members-member              of a lower part, a gap and the member behind it
 --     highest-left                in two lists, where the island does not stand in the second
 --     highest-right               in two lists, where it does
 --     highest-end                 where it stands last
@@ -20,8 +23,8 @@ use borrow.Author.Tests.{eq-eqb, ne-eqb}
 use lib.Dec.{eqb}
 use lib.ListN.{length, getD, length-append, List·getD-append}
 use Rattle.model.specs.Plan.{count, members, highest}
-use Rattle.optimum.proofs.Counts.{count-same, count-other, count-append}
-use Rattle.optimum.proofs.Shapes.{alone-other}
+use Rattle.optimum.proofs.Lists.{cons-same}
+use Rattle.optimum.proofs.Counts.{count-same, count-other, count-append, single-other}
 
 members-same : (y z p : ℕ) (a : List ℕ) → y ≡ z → members z p (y ∷ a) ≡ members z (suc p) a ++ (p ∷ [])
 unfolding members
@@ -152,7 +155,7 @@ pub parts-below :
     → highest z plan ≡ highest z low
 parts-below z x low gap plan ep n none =
     ap (λ (a : List ℕ). highest z a) ep
-    ∙ highest-left z low (gap ++ (x ∷ [])) (omega (arith, count-append z gap (x ∷ []), alone-other x z n))
+    ∙ highest-left z low (gap ++ (x ∷ [])) (omega (arith, count-append z gap (x ∷ []), single-other x z n))
 
 pub parts-behind :
     (z x : ℕ) (low gap plan : List ℕ)
@@ -163,7 +166,7 @@ pub parts-behind :
 parts-behind z x low gap plan ep n some =
     ap (λ (a : List ℕ). highest z a) ep
     ∙ highest-right z low (gap ++ (x ∷ [])) (omega (arith, count-append z gap (x ∷ [])))
-    ∙ ap (λ (k : ℕ). length low + k) (highest-left z gap (x ∷ []) (alone-other x z n))
+    ∙ ap (λ (k : ℕ). length low + k) (highest-left z gap (x ∷ []) (single-other x z n))
 
 pub members-first :
     (z p : ℕ) (a b : List ℕ)
@@ -174,3 +177,20 @@ members-first z p a b none =
     ∙ ap (λ (l : List ℕ). members z (p + length a) (z ∷ b) ++ l) (members-absent z p a none)
     ∙ append-nil (members z (p + length a) (z ∷ b))
     ∙ members-same z z (p + length a) b refl
+
+pub members-last : (x p : ℕ) (c : List ℕ) → members x p (c ++ (x ∷ [])) ≡ (p + length c) ∷ members x p c
+unfolding members
+members-last x p c =
+    members-append x p c (x ∷ []) ∙ ap (λ (l : List ℕ). l ++ members x p c) (members-same x x (p + length c) [] refl)
+
+pub members-member :
+    (x p : ℕ) (low gap : List ℕ)
+    → count x gap ≡ 0
+    → members x p (low ++ (gap ++ (x ∷ []))) ≡ (p + (length low + length gap)) ∷ members x p low
+members-member x p low gap none =
+    ap (members x p) (sym (append-assoc low gap (x ∷ [])))
+    ∙ members-last x p (low ++ gap)
+    ∙ cons-same (p + length (low ++ gap)) (p + (length low + length gap)) (members x p (low ++ gap)) (members x p low)
+    (omega (arith, length-append low gap))
+    (members-append x p low gap
+    ∙ ap (λ (l : List ℕ). l ++ members x p low) (members-absent x (p + length low) gap none))

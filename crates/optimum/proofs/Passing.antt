@@ -1,10 +1,10 @@
 -- What a number says of a job: the conditions that hold where it is 0, and the two that say that no placement exists.
 --     conditions-hold    where nothing is refused, all hold
 --     placement-exists   of a well-formed job a placement exists exactly where count and speed allow it
---     refused-exactly    so it is refused by 6 or 8 exactly where none exists
+--     count-or-speed     so it is refused by 6 or 8 exactly where none exists
 -- Assumes nothing.
 use Prim.Native.Nat.{ℕ, _*_, _≤_, _<_}
-use mathlib.Core.Path.{_≡_, refl, sym, _∙_}
+use mathlib.Core.Path.{_≡_}
 use mathlib.Core.Logic.{_⊎_, inl, inr, _↔_}
 use mathlib.Core.List.{List, [], _∷_, _++_}
 use native.Mathlib.Omega.{arith}
@@ -14,10 +14,9 @@ use Rattle.model.specs.Job.{Job}
 use Rattle.model.specs.Placement.{Placement}
 use Rattle.model.specs.Plan.{shown}
 use Rattle.model.specs.Refusals.{Condition, Tried, RoomEnough, conditions, loadConditions, roomConditions, lastOf}
-use Rattle.optimum.specs.Chosen.{planOf}
+use Rattle.optimum.specs.OfJob.{planOf}
 use Rattle.optimum.specs.Passed.{WellFormed, Passed}
-use Rattle.optimum.proofs.Padding.{placement-fits}
-use Rattle.optimum.proofs.Shown.{placement-speed}
+use Rattle.optimum.proofs.Placements.{placement-fits, placement-speed}
 use Rattle.optimum.proofs.DemandTwo.{plan-ruled, ruled-placement}
 
 abbrev AllHold : List Condition → Type 0
@@ -41,7 +40,9 @@ past holds (inr passed) = passed .1
 module _ (job : Job) (planRoom levelRoom : ℕ) where
   pub conditions-hold : Tried (conditions job planRoom levelRoom) 0 → Passed job × RoomEnough job planRoom levelRoom
   conditions-hold tried =
-      let held = all-hold (conditions job planRoom levelRoom) (lit< tt, (lit< tt, (lit< tt, (lit< tt, (lit< tt, (lit< tt, (lit< tt, (lit< tt, (lit< tt, tt))))))))) tried in
+      let held =
+      all-hold (conditions job planRoom levelRoom)
+      (lit< tt, (lit< tt, (lit< tt, (lit< tt, (lit< tt, (lit< tt, (lit< tt, (lit< tt, (lit< tt, tt))))))))) tried in
       let table = held .1 in
       let island = table .1 .1 .1 in
       let loads = island .1 in
@@ -73,34 +74,35 @@ module _ (job : Job) where
   )
 
   -- with all others passed, the count decides and then the speed
-  count-speed :
+  abbrev Decided : ℕ → Type 0
+  Decided n = ((¬ Few) × (n ≡ 6)) ⊎ (Few × (((¬ Slow) × (n ≡ 8)) ⊎ (Slow × (n ≡ 0))))
+
+  decided :
       (planRoom levelRoom n : ℕ)
       → WellFormed job
       → RoomEnough job planRoom levelRoom
       → Tried (conditions job planRoom levelRoom) n
-      → ((¬ Few) × (n ≡ 6)) ⊎ (Few × (((¬ Slow) × (n ≡ 8)) ⊎ (Slow × (n ≡ 0))))
-  count-speed planRoom levelRoom n well room tried =
+      → Decided n
+  decided planRoom levelRoom n well room tried =
       by-count
-      (past (well .island-power)
-      (past (well .slopes)
-      (past (well .ranged) (past (well .shaped) (past (well .sizes) tried)))))
+      (past (well .island-power) (past (well .slopes) (past (well .ranged) (past (well .shaped) (past (well .sizes) tried)))))
     where
-      by-speed : Few → Tried (drop 2 (loadConditions job) ++ roomConditions job planRoom levelRoom) n → ((¬ Few) × (n ≡ 6)) ⊎ (Few × (((¬ Slow) × (n ≡ 8)) ⊎ (Slow × (n ≡ 0))))
+      by-speed : Few → Tried (drop 2 (loadConditions job) ++ roomConditions job planRoom levelRoom) n → Decided n
       by-speed few (inl fast) = inr (few, inl fast)
       by-speed few (inr slow) = inr (few, inr (slow .0, past room (slow .1)))
 
-      by-count : Tried (loadConditions job ++ roomConditions job planRoom levelRoom) n → ((¬ Few) × (n ≡ 6)) ⊎ (Few × (((¬ Slow) × (n ≡ 8)) ⊎ (Slow × (n ≡ 0))))
+      by-count : Tried (loadConditions job ++ roomConditions job planRoom levelRoom) n → Decided n
       by-count (inl many) = inl many
       by-count (inr few) = by-speed (few .0) (past (well .ordered) (few .1))
 
-  pub refused-exactly :
+  pub count-or-speed :
       (planRoom levelRoom n : ℕ)
       → WellFormed job
       → RoomEnough job planRoom levelRoom
       → Tried (conditions job planRoom levelRoom) n
       → ((n ≡ 6) ⊎ (n ≡ 8)) ↔ (¬ ((plan : List ℕ) × Placement job plan))
-  refused-exactly planRoom levelRoom n well room tried =
-      elim (count-speed planRoom levelRoom n well room tried) [
+  count-or-speed planRoom levelRoom n well room tried =
+      elim (decided planRoom levelRoom n well room tried) [
         | inl many ↦ (λ refused found. many .0 (placement-exists well .1 found .0), λ none. inl (many .1))
         | inr few ↦
             elim (few .1) [

@@ -1,5 +1,6 @@
 -- Counting over a plan whose entries are all islands of one range.
 --     Named              every entry is one of the islands base + 1 to base + v
+--     within-else        what is counted, and would not be outside base + 1 to base + v, is inside
 --     islands-within     an island that stands in `islands` is one of the range
 --     named-within       an island that is counted in such a plan is one of the range
 --     named-once         so it stands in `islands` once
@@ -7,57 +8,61 @@
 --     over-level         the sum of the same figure for every island
 --     counts-length      the counts of all islands, added up, are the places
 --     full-length        a full plan has v times Q places
---     held-workload      the sums of all islands' loads, added up, are the sum of the loads
+--     held-workload      the sums of all islands' loads, each times a factor, are the sum of the loads times that factor
+--     power-same         islands of the range that draw the same, one by one, draw the same together
 -- Assumes nothing.
-use Prim.Native.Nat.{ℕ, zero, suc, _+_, _*_, _≤_, _<_}
+use Prim.Native.Nat.{ℕ, _+_, _*_, _≤_, _<_}
 use mathlib.Core.Path.{_≡_, refl, sym, ap, subst, _∙_}
+use mathlib.Core.Logic.{_⊎_, inl, inr}
 use mathlib.Core.List.{List, [], _∷_}
-use native.Mathlib.Nat.{zero-mul, one-mul, mul-zero, suc-inj, suc-ne-zero, not-suc-le-zero, le-of-suc-le-suc}
+use native.Mathlib.Nat.{zero-mul, mul-zero, mul-add, suc-inj, suc-ne-zero}
 use native.Mathlib.Decide.{ℕ-discrete, decLt}
 use native.Mathlib.Omega.{arith}
 use borrow.Author.Tests.{eq-eqb, ne-eqb}
 use lib.ListN.{length, getD}
 use Rattle.model.specs.Plan.{count, Full}
-use Rattle.model.specs.Power.{held, sum}
-use Rattle.optimum.proofs.Counts.{count-same, count-other, count-later, count-within}
-use Rattle.optimum.proofs.Spread.{islands, over, weighed, alone, islands-below, islands-above, islands-once, islands-length}
-use Rattle.optimum.proofs.Spread.{over-same, over-sum, over-one, spread}
+use Rattle.model.specs.Power.{held, sum, drawn, power}
+use Rattle.optimum.specs.Fair.{over}
+use Rattle.optimum.proofs.Counts.{count-same, count-other, count-later, count-within, count-at}
+use Rattle.optimum.proofs.Spread.{islands, weighed, alone, islands-below, islands-above, islands-once, islands-length}
+use Rattle.optimum.proofs.Spread.{each-over, over-same, over-sum, over-one, spread}
 
 abbrev pub Named : ℕ → ℕ → List ℕ → Type 0
 Named base v plan = (j : ℕ) → j < length plan → (base < getD plan j 0) × (getD plan j 0 ≤ base + v)
 
-pub islands-within : (base v z : ℕ) → 0 < count z (islands base v) → (base < z) × (z ≤ base + v)
-islands-within base v z some =
+pub within-else : (base v z k : ℕ) → ((z ≤ base) ⊎ (base + v < z) → k ≡ 0) → 0 < k → (base < z) × (z ≤ base + v)
+within-else base v z k outside some =
     elim (decLt base z) [
       | yes low ↦
           elim (decLt (base + v) z) [
-            | yes above ↦ absurd (omega (arith, islands-above base v z above))
+            | yes high ↦ absurd (omega (arith, outside (inr high)))
             | no high ↦ (low, omega arith)
           ]
-      | no below ↦ absurd (omega (arith, islands-below base v z (omega arith)))
+      | no low ↦ absurd (omega (arith, outside (inl (omega arith))))
     ]
+
+pub islands-within : (base v z : ℕ) → 0 < count z (islands base v) → (base < z) × (z ≤ base + v)
+islands-within base v z = within-else base v z (count z (islands base v)) outside
+  where
+    outside : (z ≤ base) ⊎ (base + v < z) → count z (islands base v) ≡ 0
+    outside (inl below) = islands-below base v z below
+    outside (inr above) = islands-above base v z above
 
 pub named-within : (base v : ℕ) (plan : List ℕ) → Named base v plan → (z : ℕ) → 0 < count z plan → (base < z) × (z ≤ base + v)
 named-within base v plan named z some =
     let at = count-within z plan some in
     subst (λ (x : ℕ). (base < x) × (x ≤ base + v)) (at .2) (named (at .0) (at .1))
 
-pub named-once : (base v : ℕ) (plan : List ℕ) → Named base v plan → (z : ℕ) → 0 < count z plan → count z (islands base v) ≡ 1
+named-once : (base v : ℕ) (plan : List ℕ) → Named base v plan → (z : ℕ) → 0 < count z plan → count z (islands base v) ≡ 1
 named-once base v plan named z some =
     let within = named-within base v plan named z some in
     islands-once base v z (within .0) (within .1)
-
--- what stands at a place is counted
-count-there : (a : List ℕ) (j : ℕ) → j < length a → 0 < count (getD a j 0) a
-count-there [] j h = absurd (not-suc-le-zero h)
-count-there (y ∷ a) zero h = omega (arith, count-same y y a refl)
-count-there (y ∷ a) (suc j) h = count-later y (getD a j 0) a (count-there a j (le-of-suc-le-suc h))
 
 pub named-counted :
     (base v : ℕ) (plan : List ℕ)
     → ((z : ℕ) → 0 < count z plan → (base < z) × (z ≤ base + v))
     → Named base v plan
-named-counted base v plan within j h = within (getD plan j 0) (count-there plan j h)
+named-counted base v plan within j h = within (getD plan j 0) (count-at plan j h)
 
 pub over-level : (k : ℕ) (zs : List ℕ) → over (λ z. k) zs ≡ length zs * k
 unfolding over
@@ -94,19 +99,32 @@ full-length Q base v plan full =
     ∙ over-level Q (islands base v)
     ∙ ap (λ (n : ℕ). n * Q) (islands-length base v)
 
-weighed-one : (a ws : List ℕ) → length a ≡ length ws → weighed (λ z. 1) a ws ≡ sum ws
+weighed-flat : (g : ℕ) (a ws : List ℕ) → length a ≡ length ws → weighed (λ z. g) a ws ≡ g * sum ws
 unfolding weighed sum
-weighed-one [] [] h = refl
-weighed-one [] (w ∷ ws) h = absurd (suc-ne-zero _ (sym h))
-weighed-one (y ∷ a) [] h = absurd (suc-ne-zero _ h)
-weighed-one (y ∷ a) (w ∷ ws) h = omega (arith, weighed-one a ws (suc-inj h))
+weighed-flat g [] [] h = sym (mul-zero g)
+weighed-flat g [] (w ∷ ws) h = absurd (suc-ne-zero _ (sym h))
+weighed-flat g (y ∷ a) [] h = absurd (suc-ne-zero _ h)
+weighed-flat g (y ∷ a) (w ∷ ws) h =
+    ap (λ (n : ℕ). g * w + n) (weighed-flat g a ws (suc-inj h)) ∙ sym (mul-add g w (sum ws))
 
 pub held-workload :
-    (base v : ℕ) (a ws : List ℕ)
+    (g base v : ℕ) (a ws : List ℕ)
     → Named base v a
     → length a ≡ length ws
-    → over (λ z. sum (held z a ws)) (islands base v) ≡ sum ws
-held-workload base v a ws named one-a-load =
-    over-same (λ z. sum (held z a ws)) (λ z. 1 * sum (held z a ws)) (islands base v) (λ z some. sym (one-mul (sum (held z a ws))))
-    ∙ spread (λ z. 1) (islands base v) a ws (named-once base v a named)
-    ∙ weighed-one a ws one-a-load
+    → over (λ z. g * sum (held z a ws)) (islands base v) ≡ g * sum ws
+held-workload g base v a ws named one-a-load =
+    spread (λ z. g) (islands base v) a ws (named-once base v a named) ∙ weighed-flat g a ws one-a-load
+
+-- where every island of the range draws the same, so do all together
+pub power-same :
+    (own : ℕ) (rate : ℕ → ℕ) (base v : ℕ) (plan us plan′ us′ : List ℕ)
+    → ((z : ℕ) → base < z → z ≤ base + v → drawn own rate (held z plan us) ≡ drawn own rate (held z plan′ us′))
+    → power own rate base v plan us ≡ power own rate base v plan′ us′
+unfolding power
+power-same own rate base v plan us plan′ us′ same =
+    each-over (λ z. drawn own rate (held z plan us)) base v
+    ∙ over-same (λ z. drawn own rate (held z plan us)) (λ z. drawn own rate (held z plan′ us′)) (islands base v)
+    (λ z some.
+    let within = islands-within base v z some in
+    same z (within .0) (within .1))
+    ∙ sym (each-over (λ z. drawn own rate (held z plan′ us′)) base v)

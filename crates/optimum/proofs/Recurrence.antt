@@ -1,15 +1,21 @@
 -- The recurrence, without a bound on its depth in it.
 --     fill-same     the bests of fewer than m + 1 islands decide it
+--     fill-lowest   the lowest member: what it is charged, and the best of the gap below it
 --     fill-member   one more member: what it is charged, and the least cost of the gap below it with all below that
---     best-is       the best of a run of m + 1 islands, by the bests of smaller runs
+--     best-none, best-is    the best of no islands, and of m + 1 by the bests of smaller runs
 -- Assumes nothing.
 use Prim.Native.Nat.{ℕ, zero, suc, _+_, _-_, _*_, _≤_}
-use mathlib.Core.Path.{_≡_, refl, sym, ap, _∙_}
+use mathlib.Core.Path.{_≡_, refl, ap}
 use mathlib.Core.List.{List}
-use native.Mathlib.Nat.{le-refl, not-suc-le-zero, le-of-suc-le-suc, sub-le, le-trans}
+use native.Mathlib.Nat.{le-refl, not-suc-le-zero, sub-le, le-trans}
 use native.Mathlib.Omega.{arith}
 use Rattle.optimum.specs.Best.{itself, least, loadAt, topLoad, fill, gapCost, bestWithin, best}
 use Rattle.optimum.proofs.First.{least-same}
+
+pub fill-lowest :
+    (Q : ℕ) (ws : List ℕ) (b : ℕ → ℕ → ℕ) (ρ i m : ℕ) → fill Q ws b ρ i 0 m ≡ ρ * loadAt Q ws i m 0 + b i m
+unfolding fill
+fill-lowest Q ws b ρ i m = refl
 
 pub fill-member :
     (Q : ℕ) (ws : List ℕ) (b : ℕ → ℕ → ℕ) (ρ i r m : ℕ)

@@ -4,33 +4,23 @@
 use Prim.Native.Nat.{ℕ, zero, suc, _+_, _-_, _/_, _<_}
 use mathlib.Core.Path.{_≡_, refl, sym, ap, subst, _∙_}
 use mathlib.Core.Logic.{_⊎_, inl, inr}
-use mathlib.Core.List.{List, [], _∷_, _++_, append-assoc, append-eq-nil-iff, concat-ne-nil, head-eq-of-cons-eq, tail-eq-of-cons-eq}
+use mathlib.Core.List.{List, [], _∷_, _++_, append-assoc}
 use native.Mathlib.Omega.{arith}
 use lib.ListN.{length}
 use Rattle.model.specs.Plan.{count, members}
 use Rattle.model.specs.TieRule.{Gap, ByRule}
 use Rattle.optimum.proofs.Counts.{count-same, count-append, count-first}
 use Rattle.optimum.proofs.Members.{members-length, members-first}
+use Rattle.optimum.proofs.Lists.{end-one}
 use Rattle.optimum.proofs.Leading.{leads-one}
+use Rattle.optimum.proofs.GapParts.{end-some}
 use Rattle.optimum.proofs.UncrossedRun.{top-last}
-
--- lists that are equal with one more entry behind each
-snoc-one : (a b : List ℕ) (x y : ℕ) → a ++ (x ∷ []) ≡ b ++ (y ∷ []) → (a ≡ b) × (x ≡ y)
-snoc-one [] [] x y h = (refl, head-eq-of-cons-eq h)
-snoc-one [] (z ∷ b) x y h = absurd (concat-ne-nil y b (sym (tail-eq-of-cons-eq h)))
-snoc-one (z ∷ a) [] x y h = absurd (concat-ne-nil x a (tail-eq-of-cons-eq h))
-snoc-one (z ∷ a) (w ∷ b) x y h =
-    let rest = snoc-one a b x y (tail-eq-of-cons-eq h) in
-    (λ i. head-eq-of-cons-eq h i ∷ rest .0 i, rest .1)
 
 -- a list that ends with a member has nothing behind its last member
 behind-nothing : (x : ℕ) (b rest e : List ℕ) → b ++ rest ≡ e ++ (x ∷ []) → count x rest ≡ 0 → rest ≡ []
-unfolding count
-behind-nothing x [] rest e h none =
-    let some : count x rest ≡ count x (e ++ (x ∷ [])) = ap (count x) h in
-    absurd (omega (arith, count-append x e (x ∷ []), count-same x x [] refl))
-behind-nothing x (y ∷ b) rest [] h none = (append-eq-nil-iff {p = b} {q = rest}) .0 (tail-eq-of-cons-eq h) .1
-behind-nothing x (y ∷ b) rest (z ∷ e) h none = behind-nothing x b rest e (tail-eq-of-cons-eq h) none
+behind-nothing x b [] e whole none = refl
+behind-nothing x b (y ∷ rest) e whole none =
+    absurd (omega (arith, end-some x b (y ∷ rest) (inr (e, whole)) (omega arith)))
 
 -- lists with the same members are cut at the same place by the first of them
 first-same :
@@ -41,7 +31,7 @@ first-same :
     → (length c ≡ length c′) × (members x (suc (p + length c)) d ≡ members x (suc (p + length c)) d′)
 first-same x p c c′ d d′ free free′ same =
     let ends =
-    snoc-one
+    end-one
     (members x (suc (p + length c)) d)
     (members x (suc (p + length c′)) d′)
     (p + length c)

@@ -3,6 +3,7 @@
 --     power-held      islands that hold the same loads draw the same
 --     charged         what the members of an island are charged, and what the islands in the gaps below them draw
 --     charged-parts   that of a lower part, a gap and the member behind it
+--     charged-lowest  that of the lowest gap and the member behind it
 --     power-top       a run draws what its top island draws by itself, and what is charged
 -- Assumes nothing.
 use Prim.Native.Nat.{ℕ, zero, suc, _+_, _*_, _≤_, _<_}
@@ -16,8 +17,7 @@ use Rattle.model.specs.Power.{each, held, heaviest, sum, drawn, power}
 use Rattle.optimum.specs.Best.{itself}
 use Rattle.optimum.proofs.Counts.{count-other}
 use Rattle.optimum.proofs.Held.{held-same, held-append, held-absent, sum-append, drawn-is}
-use Rattle.optimum.proofs.Spread.{islands, over, each-over, over-same}
-use Rattle.optimum.proofs.Places.{islands-within}
+use Rattle.optimum.proofs.Places.{power-same}
 
 each-range : (f : ℕ → ℕ) (base l g : ℕ) → sum (each f base (l + g)) ≡ sum (each f base l) + sum (each f (base + l) g)
 unfolding each sum
@@ -32,24 +32,18 @@ each-range f base (suc l) g =
     ap (λ (n : ℕ). sum (each f base n)) (suc-add l g) ∙ omega arith
 
 module _ (own : ℕ) (rate : ℕ → ℕ) where
-  pub power-range :
+  power-range :
       (base l g : ℕ) (plan us : List ℕ)
       → power own rate base (l + g) plan us ≡ power own rate base l plan us + power own rate (base + l) g plan us
   unfolding power
   power-range base l g plan us = each-range (λ z. drawn own rate (held z plan us)) base l g
 
-  pub power-held :
+  power-held :
       (base v : ℕ) (plan us plan′ us′ : List ℕ)
       → ((z : ℕ) → base < z → z ≤ base + v → held z plan us ≡ held z plan′ us′)
       → power own rate base v plan us ≡ power own rate base v plan′ us′
-  unfolding power
   power-held base v plan us plan′ us′ same =
-      each-over (λ z. drawn own rate (held z plan us)) base v
-      ∙ over-same (λ z. drawn own rate (held z plan us)) (λ z. drawn own rate (held z plan′ us′)) (islands base v)
-      (λ z some.
-      let at = islands-within base v z some in
-      ap (λ (l : List ℕ). drawn own rate l) (same z (at .0) (at .1)))
-      ∙ sym (each-over (λ z. drawn own rate (held z plan′ us′)) base v)
+      power-same own rate base v plan us plan′ us′ (λ z low high. ap (λ (l : List ℕ). drawn own rate l) (same z low high))
 
   -- ρ for each kHz on the island x, and the islands base + 1 to base + m
   unfoldable pub charged : ℕ → ℕ → ℕ → ℕ → List ℕ → List ℕ → ℕ

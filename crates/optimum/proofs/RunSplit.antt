@@ -4,7 +4,7 @@
 --     run-split     a run of sorted loads is a split of them, at what it draws
 --     gaps-fill     the same of the lowest members of an island with the gaps below them
 -- Assumes nothing.
-use Prim.Native.Nat.{ℕ, zero, suc, _+_, _*_, _≤_, _<_}
+use Prim.Native.Nat.{ℕ, suc, _+_, _<_}
 use mathlib.Core.Path.{_≡_, refl, sym, ap, _∙_, subst}
 use mathlib.Core.List.{List, [], _∷_, _++_}
 use native.Mathlib.Nat.{suc-ne-zero, zero-lt-suc}

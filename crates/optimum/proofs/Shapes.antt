@@ -1,26 +1,24 @@
 -- What a run and the gaps of a top island hold.
---     alone-same, alone-other      the count in a single entry
 --     parts-count                  the count in a lower part, a gap and the member behind it
 --     run-length, gaps-length      how many positions
 --     run-inside, run-outside      every island of a run holds Q positions, no other holds any
 --     gaps-top                     the top island holds its r + 1 members
 --     gaps-inside, gaps-outside    every island in the gaps holds Q positions, no other holds any
 --     gaps-end                     the top island stands last
---     count-at                     the island that stands at a place is counted
---     within-else                  what is counted, and would not be outside base + 1 to base + v, is inside
 --     run-full                     a run is a full plan of its islands
 -- Assumes nothing.
-use Prim.Native.Nat.{ℕ, zero, suc, _+_, _*_, _≤_, _<_}
+use Prim.Native.Nat.{ℕ, suc, _+_, _*_, _≤_, _<_}
 use mathlib.Core.Path.{_≡_, refl, sym, ap, _∙_}
 use mathlib.Core.Logic.{_⊎_, inl, inr}
 use mathlib.Core.List.{List, [], _∷_, _++_, append-assoc}
-use native.Mathlib.Nat.{add-mul, not-suc-le-zero}
+use native.Mathlib.Nat.{add-mul}
 use native.Mathlib.Decide.{ℕ-discrete, decLt}
 use native.Mathlib.Omega.{arith}
-use lib.ListN.{length, getD, length-append}
+use lib.ListN.{length, length-append}
 use Rattle.model.specs.Plan.{count, Full}
 use Rattle.optimum.specs.Shape.{Run, Gaps}
-use Rattle.optimum.proofs.Counts.{count-same, count-other, count-append, count-later}
+use Rattle.optimum.proofs.Places.{within-else, named-counted}
+use Rattle.optimum.proofs.Counts.{count-append, single-same, single-other}
 
 -- the members' plan is a lower part, a gap and the member behind it
 parts-length : (x : ℕ) (low gap plan : List ℕ) → plan ≡ low ++ (gap ++ (x ∷ [])) → length plan ≡ length low + suc (length gap)
@@ -33,14 +31,6 @@ pub parts-count :
     → count z plan ≡ count z low + (count z gap + count z (x ∷ []))
 parts-count z x low gap plan ep =
     ap (count z) ep ∙ omega (arith, count-append z low (gap ++ (x ∷ [])), count-append z gap (x ∷ []))
-
-pub alone-same : (x z : ℕ) → x ≡ z → count z (x ∷ []) ≡ 1
-unfolding count
-alone-same x z e = count-same x z [] e
-
-pub alone-other : (x z : ℕ) → ¬ (x ≡ z) → count z (x ∷ []) ≡ 0
-unfolding count
-alone-other x z n = count-other x z [] n
 
 mutual
   pub run-length : (Q base v : ℕ) (plan : List ℕ) → Run Q base v plan → length plan ≡ v * Q
@@ -79,14 +69,14 @@ mutual
       → (z ≤ base) ⊎ (base + m < z)
       → count z plan ≡ 0
   gaps-outside Q x base r m plan (Gaps.lowest gap er run ep) z n out =
-      omega (arith, parts-count z x [] gap plan ep, alone-other x z n, run-outside Q base m gap run z out)
+      omega (arith, parts-count z x [] gap plan ep, single-other x z n, run-outside Q base m gap run z out)
   gaps-outside Q x base r m plan (Gaps.member s l g low gap er em gaps run ep) z n (inl below) =
       let gap-none : count z gap ≡ 0 = run-outside Q (base + l) g gap run z (inl (omega arith)) in
-      omega (arith, parts-count z x low gap plan ep, alone-other x z n, gaps-outside Q x base s l low gaps z n (inl below))
+      omega (arith, parts-count z x low gap plan ep, single-other x z n, gaps-outside Q x base s l low gaps z n (inl below))
   gaps-outside Q x base r m plan (Gaps.member s l g low gap er em gaps run ep) z n (inr above) =
       let gap-none : count z gap ≡ 0 = run-outside Q (base + l) g gap run z (inr (omega arith)) in
       let low-none : count z low ≡ 0 = gaps-outside Q x base s l low gaps z n (inr (omega arith)) in
-      omega (arith, parts-count z x low gap plan ep, alone-other x z n)
+      omega (arith, parts-count z x low gap plan ep, single-other x z n)
 
 pub gaps-top :
     (Q x base r m : ℕ) (plan : List ℕ)
@@ -95,11 +85,11 @@ pub gaps-top :
     → count x plan ≡ suc r
 unfolding count
 gaps-top Q x base r m plan (Gaps.lowest gap er run ep) above =
-    omega (arith, parts-count x x [] gap plan ep, alone-same x x refl, run-outside Q base m gap run x (inr above))
+    omega (arith, parts-count x x [] gap plan ep, single-same x x refl, run-outside Q base m gap run x (inr above))
 gaps-top Q x base r m plan (Gaps.member s l g low gap er em gaps run ep) above =
     let gap-none : count x gap ≡ 0 = run-outside Q (base + l) g gap run x (inr (omega arith)) in
     let below : count x low ≡ suc s = gaps-top Q x base s l low gaps (omega arith) in
-    omega (arith, parts-count x x low gap plan ep, alone-same x x refl)
+    omega (arith, parts-count x x low gap plan ep, single-same x x refl)
 
 mutual
   unfolding count
@@ -118,7 +108,7 @@ mutual
         | no n ↦ gaps-inside Q (base + v) base r m plan gaps (omega arith) z low (omega arith)
       ]
 
-  pub gaps-inside :
+  gaps-inside :
       (Q x base r m : ℕ) (plan : List ℕ)
       → Gaps Q x base r m plan
       → base + m < x
@@ -127,10 +117,10 @@ mutual
       → z ≤ base + m
       → count z plan ≡ Q
   gaps-inside Q x base r m plan (Gaps.lowest gap er run ep) above z low high =
-      let other : count z (x ∷ []) ≡ 0 = alone-other x z (λ e. omega arith) in
+      let other : count z (x ∷ []) ≡ 0 = single-other x z (λ e. omega arith) in
       omega (arith, parts-count z x [] gap plan ep, run-inside Q base m gap run z low high)
   gaps-inside Q x base r m plan (Gaps.member s l g low gap er em gaps run ep) above z bottom high =
-      let other : count z (x ∷ []) ≡ 0 = alone-other x z (λ e. omega arith) in
+      let other : count z (x ∷ []) ≡ 0 = single-other x z (λ e. omega arith) in
       elim (decLt (base + l) z) [
         | yes up ↦
             let low-none : count z low ≡ 0 = gaps-outside Q x base s l low gaps z (λ e. omega arith) (inr up) in
@@ -142,26 +132,10 @@ mutual
             omega (arith, parts-count z x low gap plan ep)
       ]
 
-pub count-at : (a : List ℕ) (j : ℕ) → j < length a → 0 < count (getD a j 0) a
-count-at [] j h = absurd (not-suc-le-zero h)
-count-at (y ∷ a) zero h = omega (arith, count-same y y a refl)
-count-at (y ∷ a) (suc j) h = count-later y (getD a j 0) a (count-at a j (omega arith))
-
-pub within-else : (base v z k : ℕ) → ((z ≤ base) ⊎ (base + v < z) → k ≡ 0) → 0 < k → (base < z) × (z ≤ base + v)
-within-else base v z k outside some =
-    elim (decLt base z) [
-      | yes low ↦
-          elim (decLt (base + v) z) [
-            | yes high ↦ absurd (omega (arith, outside (inr high)))
-            | no high ↦ (low, omega arith)
-          ]
-      | no low ↦ absurd (omega (arith, outside (inl (omega arith))))
-    ]
-
 pub run-full : (Q base v : ℕ) (plan : List ℕ) → Run Q base v plan → Full Q base v plan
 run-full Q base v plan run =
     record {
-      named = λ j h. within-else base v (getD plan j 0) _ (run-outside Q base v plan run (getD plan j 0)) (count-at plan j h);
+      named = named-counted base v plan (λ z some. within-else base v z (count z plan) (run-outside Q base v plan run z) some);
       filled = run-inside Q base v plan run;
     }
 

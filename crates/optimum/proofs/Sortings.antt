@@ -1,15 +1,15 @@
 -- Sorted loads, and the heaviest load of an island among them.
---     least-append, most-append       of two lists, one behind the other
---     sorted-append                   both parts of a sorted list are sorted, and the second is nowhere lighter than the first's last
+--     most-front, most-back, sorted-front, sorted-back    the parts of two lists, one behind the other
 --     sorted-taken-out, most-taken-out    what is left when a stretch is taken out
 --     heaviest-at-least, heaviest-at-most    the heaviest load of an island lies within what its loads lie within
 --     heaviest-later                  an island that stands in the later part has its heaviest load there
 --     top-heaviest                    an island that stands last has the last load as its heaviest
 -- Assumes nothing.
-use Prim.Native.Nat.{ℕ, zero, suc, max, _≤_, _<_, zero-le}
+use Prim.Native.Nat.{ℕ, _≤_, _<_, zero-le}
 use mathlib.Core.Path.{_≡_, refl, sym, ap, _∙_}
 use mathlib.Core.List.{List, [], _∷_, _++_}
-use native.Mathlib.Nat.{not-suc-le-zero, le-of-suc-le-suc, suc-inj, suc-ne-zero, le-trans, le-max-left, le-max-right, max-le, max-eq-right, max-zero, le-of-eq}
+use native.Mathlib.Nat.{not-suc-le-zero, le-of-suc-le-suc, suc-inj, suc-ne-zero, le-trans, le-max-left}
+use native.Mathlib.Nat.{max-le, max-eq-right, max-zero, le-of-eq}
 use native.Mathlib.Decide.{ℕ-discrete}
 use native.Mathlib.Omega.{arith}
 use lib.ListN.{length, length-append}
@@ -19,11 +19,11 @@ use Rattle.optimum.specs.Loads.{AtLeast, AtMost, Sorted}
 use Rattle.optimum.proofs.Counts.{count-same, count-other, count-append}
 use Rattle.optimum.proofs.Held.{held-same, held-other}
 
-pub least-append : (w : ℕ) (p q : List ℕ) → AtLeast w (p ++ q) → AtLeast w p × AtLeast w q
+least-append : (w : ℕ) (p q : List ℕ) → AtLeast w (p ++ q) → AtLeast w p × AtLeast w q
 least-append w [] q h = (tt, h)
 least-append w (u ∷ p) q h = let rest = least-append w p q (h .1) in ((h .0, rest .0), rest .1)
 
-pub least-joined : (w : ℕ) (p q : List ℕ) → AtLeast w p → AtLeast w q → AtLeast w (p ++ q)
+least-joined : (w : ℕ) (p q : List ℕ) → AtLeast w p → AtLeast w q → AtLeast w (p ++ q)
 least-joined w [] q h k = k
 least-joined w (u ∷ p) q h k = (h .0, least-joined w p q (h .1) k)
 

@@ -4,11 +4,11 @@
 --     block-on-top                 a split, and the next Q loads as a new top island
 --     insertion                    a split, and Q loads put in anywhere as an island of their own
 -- Assumes nothing.
-use Prim.Native.Nat.{ℕ, zero, suc, _+_, _*_, _<_}
+use Prim.Native.Nat.{ℕ, suc, _+_, _*_, _<_}
 use mathlib.Core.Path.{_≡_, refl, sym, ap, _∙_, subst}
-use mathlib.Core.Logic.{_⊎_, inl, inr}
+use mathlib.Core.Logic.{inl, inr}
 use mathlib.Core.List.{List, [], _∷_, _++_, append-assoc, append-nil, nil≢cons}
-use native.Mathlib.Nat.{add-mul, zero-mul, not-suc-le-zero, zero-lt-suc, mul-add, mul-zero, add-zero}
+use native.Mathlib.Nat.{zero-mul, zero-lt-suc, add-zero}
 use native.Mathlib.Omega.{arith}
 use lib.ListN.{length, length-append}
 use Rattle.model.specs.Power.{sum}
@@ -140,13 +140,15 @@ module _ (Q own : ℕ) (rate : ℕ → ℕ) where
         → Fill Q own rate ρ (p ++ (b ++ q)) r (suc m) (d + block b)
     insert-fill {ρ} {us} {r} {m} {d} (Fill.lowest gap w c z s u y) b p q full pos cut some =
         let at = cut-last gap w p q (sym u ∙ cut) some in
-        Fill.lowest {ρ = ρ} {us = p ++ (b ++ q)} {d = d + block b} (p ++ (b ++ at .0)) w (c + block b) z (insert-split s b p (at .0) full pos (at .1))
+        Fill.lowest {ρ = ρ} {us = p ++ (b ++ q)} {d = d + block b} (p ++ (b ++ at .0)) w (c + block b) z
+        (insert-split s b p (at .0) full pos (at .1))
         (ap (λ (k : List ℕ). p ++ (b ++ k)) (at .2) ∙ append-inner p b (at .0) (w ∷ [])) (omega arith)
     insert-fill {ρ} {us} {r} {m} {d} (Fill.member s l g low gap w c e z n f t u y) b p q full pos cut some =
         elim (cut-twice low (gap ++ (w ∷ [])) p q (sym u ∙ cut)) [
           | inl found ↦
               let at = cut-last gap w (found .0) q (found .2) some in
-              Fill.member {ρ = ρ} {us = p ++ (b ++ q)} {m = suc m} {d = d + block b} s l (suc g) low (found .0 ++ (b ++ at .0)) w (c + block b) e z (omega arith) f
+              Fill.member {ρ = ρ} {us = p ++ (b ++ q)} {m = suc m} {d = d + block b} s l (suc g) low
+              (found .0 ++ (b ++ at .0)) w (c + block b) e z (omega arith) f
               (insert-split t b (found .0) (at .0) full pos (at .1))
               (ap (λ (k : List ℕ). k ++ (b ++ q)) (found .1)
               ∙ ap (λ (k : List ℕ). (low ++ found .0) ++ (b ++ k)) (at .2)
@@ -154,7 +156,8 @@ module _ (Q own : ℕ) (rate : ℕ → ℕ) where
               ∙ ap (λ (k : List ℕ). low ++ k) (append-inner (found .0) b (at .0) (w ∷ [])))
               (omega arith)
           | inr found ↦
-              Fill.member {ρ = ρ} {us = p ++ (b ++ q)} {m = suc m} {d = d + block b} s (suc l) g (p ++ (b ++ (found .0 ∷ found .1))) gap w c (e + block b) z (omega arith)
+              Fill.member {ρ = ρ} {us = p ++ (b ++ q)} {m = suc m} {d = d + block b} s (suc l) g
+              (p ++ (b ++ (found .0 ∷ found .1))) gap w c (e + block b) z (omega arith)
               (insert-fill f b p (found .0 ∷ found .1) full pos (found .2) (zero-lt-suc (length (found .1)))) t
               (ap (λ (k : List ℕ). p ++ (b ++ k)) (found .3) ∙ append-inner p b (found .0 ∷ found .1) (gap ++ (w ∷ [])))
               (omega arith)

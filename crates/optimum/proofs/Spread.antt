@@ -1,19 +1,18 @@
 -- A sum over islands is a sum over positions.
 --     islands            the islands base + 1 to base + v, as a list
---     over               the sum of a figure over a list of islands
 --     weighed            the sum over the positions: each load, times a weight of its island
 --     each-over          a sum of `each` is one over `islands`
---     islands-once       every island of the range stands there once, and no other
+--     islands-once, islands-below, islands-above, islands-length    every island of the range stands there once, and no other
 --     over-same, over-sum, over-le, over-scaled    the sums of two figures that are equal, added, in order, multiplied
---     over-one           a figure of one island of the list, added to the rest
+--     alone, over-one    a figure of one island alone, and its sum over a list where the island stands once
 --     weighed-append     in two lists, one behind the other
 --     spread             the islands' weighed sums of loads, added up, are the positions'
 -- Assumes nothing.
 use Prim.Native.Nat.{ℕ, zero, suc, _+_, _*_, _≤_, _<_, zero-le}
 use mathlib.Core.Path.{_≡_, refl, sym, ap, _∙_}
 use mathlib.Core.Bool.{cond}
-use mathlib.Core.List.{List, [], _∷_, _++_, map}
-use native.Mathlib.Nat.{zero-add, add-zero, add-assoc, add-left-comm, mul-zero, zero-mul, mul-add, add-mul, suc-ne-zero, suc-inj, add-le-add, not-suc-le-zero}
+use mathlib.Core.List.{List, [], _∷_, _++_}
+use native.Mathlib.Nat.{zero-add, add-zero, add-assoc, mul-zero, zero-mul, mul-add, add-mul, suc-ne-zero, suc-inj, add-le-add}
 use native.Mathlib.Decide.{ℕ-discrete}
 use native.Mathlib.Omega.{arith}
 use borrow.Author.Tests.{eq-eqb, ne-eqb}
@@ -21,15 +20,12 @@ use lib.Dec.{eqb}
 use lib.ListN.{length}
 use Rattle.model.specs.Plan.{count}
 use Rattle.model.specs.Power.{each, held, sum}
+use Rattle.optimum.specs.Fair.{over}
 use Rattle.optimum.proofs.Counts.{count-same, count-other, count-later}
 use Rattle.optimum.proofs.Held.{held-same, held-other}
 
 unfoldable pub islands : ℕ → ℕ → List ℕ
 islands base v = each (λ z. z) base v
-
-unfoldable pub over : (ℕ → ℕ) → List ℕ → ℕ
-over g [] = 0
-over g (z ∷ zs) = g z + over g zs
 
 unfoldable pub weighed : (ℕ → ℕ) → List ℕ → List ℕ → ℕ
 weighed weight [] us = 0

@@ -1,6 +1,4 @@
 -- A plan without a crossing is a run.
---     full-outside     no island beside those of a full plan is counted
---     full-within      an island that is counted is one of those
 --     top-last         the last position is the top island's
 --     uncrossed-run    a full, numbered plan without a crossing has the shape of a run
 -- Assumes nothing.
@@ -11,17 +9,18 @@ use mathlib.Core.List.{List, [], _∷_, _++_, append-assoc}
 use native.Mathlib.Nat.{le-refl, le-dest, lt-of-not-le}
 use native.Mathlib.Decide.{ℕ-discrete, decLt}
 use native.Mathlib.Omega.{arith}
-use lib.ListN.{length, getD}
+use lib.ListN.{length}
 use Rattle.model.specs.Plan.{count, highest, Full, Numbered}
 use Rattle.model.specs.TieRule.{Uncrossed}
 use Rattle.optimum.specs.Shape.{Run, Gaps}
-use Rattle.optimum.proofs.Counts.{count-same, count-append, count-none, count-last}
-use Rattle.optimum.proofs.Shapes.{alone-same, alone-other, parts-count, count-at, within-else}
+use Rattle.optimum.proofs.Counts.{count-same, count-append, count-none, count-last, single-same, single-other}
+use Rattle.optimum.proofs.Places.{within-else, named-within, named-counted}
+use Rattle.optimum.proofs.Shapes.{parts-count}
 use Rattle.optimum.proofs.Members.{highest-left, highest-right, highest-length, parts-below, parts-behind}
-use Rattle.optimum.proofs.RunUncrossed.{Has, has-join, some-has}
-use Rattle.optimum.proofs.RunUncrossed.{Untangled, untangled, no-crossing, untangled-left, untangled-right}
+use Rattle.optimum.proofs.Subsequence.{Has, has-join, some-has}
+use Rattle.optimum.proofs.Untangled.{Untangled, untangled, no-crossing, untangled-left, untangled-right}
 
-pub full-outside :
+full-outside :
     (Q base v : ℕ) (plan : List ℕ)
     → Full Q base v plan
     → (z : ℕ)
@@ -29,14 +28,6 @@ pub full-outside :
     → count z plan ≡ 0
 full-outside Q base v plan full z (inl below) = count-none z plan (λ j within e. omega (arith, full .named j within .0))
 full-outside Q base v plan full z (inr above) = count-none z plan (λ j within e. omega (arith, full .named j within .1))
-
-pub full-within :
-    (Q base v : ℕ) (plan : List ℕ)
-    → Full Q base v plan
-    → (z : ℕ)
-    → 0 < count z plan
-    → (base < z) × (z ≤ base + v)
-full-within Q base v plan full z = within-else base v z (count z plan) (full-outside Q base v plan full z)
 
 -- an island with a place behind the top island's last would have the higher highest position
 last-alone :
@@ -56,7 +47,7 @@ last-alone Q base v plan b (y ∷ d) some un ep none =
     let y-high : highest y plan ≡ length front + highest y (y ∷ d) =
     ap (λ (l : List ℕ). highest y l) whole ∙ highest-right y front (y ∷ d) here in
     let x-high : highest x plan ≡ highest x front = ap (λ (l : List ℕ). highest x l) whole ∙ highest-left x front (y ∷ d) none in
-    let inside : (base < y) × (y ≤ x) = full-within Q base v plan (un .full) y (omega arith) in
+    let inside : (base < y) × (y ≤ x) = named-within base v plan (un .full .named) y (omega arith) in
     elim (ℕ-discrete y x) [
       | yes e ↦ absurd (omega (arith, count-same y x d e))
       | no n ↦
@@ -148,7 +139,7 @@ threshold base (suc m) gap up =
 module _ (Q x base r m : ℕ) (plan low gap : List ℕ) (fits : Fits Q x base r m plan)
     (whole : plan ≡ low ++ (gap ++ (x ∷ []))) (none : count x gap ≡ 0) where
   parts : (z : ℕ) → ¬ (x ≡ z) → count z plan ≡ count z low + count z gap
-  parts z n = omega (arith, parts-count z x low gap plan whole, alone-other x z n)
+  parts z n = omega (arith, parts-count z x low gap plan whole, single-other x z n)
 
   under : (z : ℕ) → z ≤ base + m → ¬ (x ≡ z)
   under z high e = omega (arith, fits .above)
@@ -182,7 +173,7 @@ module _ (Q x base r m : ℕ) (plan low gap : List ℕ) (fits : Fits Q x base r 
       → Uncrossed Q b g gap
   gap-uncrossed b g q-some from to gap-free low-free =
       record {
-        full = record { named = λ j h. named (getD gap j 0) (count-at gap j h); filled = held };
+        full = record { named = named-counted b g gap named; filled = held };
         numbered = λ y z bottom order high.
             let all : highest y plan < highest z plan = fits .numbered y z (omega arith) order (omega arith) in
             omega (arith, behind y bottom (omega arith), behind z (omega arith) high);
@@ -215,7 +206,7 @@ module _ (Q x base r m : ℕ) (plan low gap : List ℕ) (fits : Fits Q x base r 
   low-fits s l er short gap-free low-free =
       record {
         above = omega (arith, fits .above);
-        top = omega (arith, fits .top, parts-count x x low gap plan whole, alone-same x x refl);
+        top = omega (arith, fits .top, parts-count x x low gap plan whole, single-same x x refl);
         inside = λ z bottom high.
             omega (arith, parts z (under z (omega arith)), gap-free z bottom high, fits .inside z bottom (omega arith));
         outside = outside;
@@ -251,7 +242,7 @@ module _ (Q x base r m : ℕ) (plan low gap : List ℕ) (fits : Fits Q x base r 
             (subst (λ (b : List ℕ). Has (z ∷ x ∷ z ∷ x ∷ []) b) (sym whole)
             (has-join (z ∷ x ∷ []) (z ∷ x ∷ []) low (gap ++ (x ∷ [])) below behind)))
         | no free ↦
-            ap (count z) ends ∙ omega (arith, count-append z c (x ∷ []), alone-other x z (gap-other z some))
+            ap (count z) ends ∙ omega (arith, count-append z c (x ∷ []), single-other x z (gap-other z some))
       ]
 
 -- the members from the highest down, where every shorter plan is known to be a run
@@ -266,14 +257,14 @@ gaps-of :
     → Gaps Q x base r m plan
 unfolding count
 gaps-of Q x base n q-some inner zero m plan c short fits ep =
-    let none : count x c ≡ 0 = omega (arith, fits .top, parts-count x x [] c plan ep, alone-same x x refl) in
+    let none : count x c ≡ 0 = omega (arith, fits .top, parts-count x x [] c plan ep, single-same x x refl) in
     Gaps.lowest c refl
     (inner base m c short
     (gap-uncrossed Q x base zero m plan [] c fits ep none base m q-some (omega arith) refl
     (λ z low high. absurd (omega arith)) (λ z low high. refl)))
     ep
 gaps-of Q x base n q-some inner (suc s) m plan c short fits ep =
-    let some : 0 < count x c = omega (arith, fits .top, parts-count x x [] c plan ep, alone-same x x refl) in
+    let some : 0 < count x c = omega (arith, fits .top, parts-count x x [] c plan ep, single-same x x refl) in
     let cut = count-last x c some in
     let low : List ℕ = cut .0 ++ (x ∷ []) in
     let gap : List ℕ = cut .1 in

@@ -1,15 +1,10 @@
 -- The plan as a function: from the highest member down, the smallest gap that attains the least.
 --     chosen      how many islands the top gap gets
 --     planGaps    the gap walker: the lowest r + 1 members of the island x with m islands in the gaps below them
---     planRun     the run writer: a run that begins at place i, its islands base + 1 to base + v
---     planOf      the full plan of a job
+--     planRun     the run writer: a run that begins at place i, its islands base + 1 to base + v; planWithin, with a bound on its depth
 -- Assumes nothing.
 use Prim.Native.Nat.{ℕ, zero, suc, _+_, _-_, _*_}
 use mathlib.Core.List.{List, [], _∷_, _++_}
-use Rattle.model.specs.Level.{charge}
-use Rattle.model.specs.Job.{Job}
-use Rattle.model.specs.Power.{own}
-use Rattle.model.specs.Plan.{padded}
 use Rattle.optimum.specs.Best.{first, gapCost, topLoad, best}
 
 module _ (Q : ℕ) (ws : List ℕ) (b : ℕ → ℕ → ℕ) where
@@ -34,7 +29,3 @@ module _ (Q : ℕ) (ws : List ℕ) (b : ℕ → ℕ → ℕ) where
 
 unfoldable pub planRun : ℕ → ℕ → (ℕ → ℕ) → List ℕ → ℕ → ℕ → ℕ → List ℕ
 planRun Q own rate ws i base v = planWithin Q ws (best Q own rate ws) rate v i base v
-
--- the full plan of a job
-unfoldable pub planOf : Job → List ℕ
-planOf job = planRun (job .cores) (own job) (charge (job .table)) (padded job) 0 0 (job .islands)

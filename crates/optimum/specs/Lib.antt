@@ -3,5 +3,7 @@ pub mod Shape
 pub mod Best
 pub mod Split
 pub mod Chosen
+pub mod OfJob
 pub mod Fair
 pub mod Passed
+pub mod Demands

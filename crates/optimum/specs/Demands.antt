@@ -1,0 +1,48 @@
+-- Demands 2 and 3, as they are made of an accepted job: of the total that is reported and of the plan that is returned.
+--     Demand2       the total is the plan's, no placement's is lower, the plan has no crossing and is the one that the rule names
+--     Demand3       what the total and the plan are worth with exact fractions as costs
+--     SameAnswer    two answers with one number, one total and the same bytes in both buffers
+-- Exact powers are times the product of all the table's frequencies, and so is what is compared with them. Assumes nothing.
+use Prim.Native.Nat.{ℕ, _+_, _*_, _≤_, _<_}
+use mathlib.Core.Path.{_≡_}
+use mathlib.Core.List.{List}
+use Rattle.model.specs.Job.{Job}
+use Rattle.model.specs.Power.{total, workload}
+use Rattle.model.specs.Exact.{scale, exact, WholeCosts}
+use Rattle.model.specs.Placement.{Placement}
+use Rattle.model.specs.Plan.{shown}
+use Rattle.model.specs.TieRule.{Uncrossed}
+use Rattle.optimum.specs.Passed.{Ruled}
+
+pub record Demand2 (job : Job) (reported : ℕ) (plan : List ℕ) : Type 0 where
+  pub placement : Placement job plan
+  -- "The power is Equation (1) of the DYVIA paper, each level's cost rounded up to whole femtojoules per cycle."
+  pub equation : reported ≡ total job plan
+  -- "No placement with at most the allowed sets per island has a lower total"
+  pub least : (other : List ℕ) → Placement job other → reported ≤ total job other
+  -- "The returned plan has no crossing islands."
+  pub full : List ℕ
+  pub seen : plan ≡ shown job full
+  pub uncrossed : Uncrossed (job .cores) 0 (job .islands) full
+  -- "among equals the tie rule names one"
+  pub ruled : Ruled job full
+  pub only : (other : List ℕ) → Ruled job other → full ≡ other
+
+pub record Demand3 (job : Job) (reported : ℕ) (plan : List ℕ) : Type 0 where
+  -- "the plan's exact power exceeds no placement's (crossing ones too) by more than W pW"
+  pub within : (other : List ℕ) → Placement job other → exact job plan ≤ exact job other + workload job * scale job
+  -- "the reported total is never below the plan's exact power"
+  pub covered : exact job plan ≤ reported * scale job
+  -- "and above it by less than W"
+  pub close : 0 < workload job → reported * scale job < exact job plan + workload job * scale job
+  -- "or equal when W is 0"
+  pub equal : workload job ≡ 0 → reported * scale job ≡ exact job plan
+  -- "where all costs are whole, no placement's exact power is lower"
+  pub whole : WholeCosts (job .table) → (other : List ℕ) → Placement job other → exact job plan ≤ exact job other
+
+-- number, total, plan buffer and level buffer
+pub record SameAnswer (n reported : ℕ) (planned leveled : List ℕ) (n′ reported′ : ℕ) (planned′ leveled′ : List ℕ) : Type 0 where
+  pub number : n ≡ n′
+  pub totals : reported ≡ reported′
+  pub plans : planned ≡ planned′
+  pub levels : leveled ≡ leveled′
