@@ -12,7 +12,7 @@ use lib.ListN.{length, getD, drop, length-append, List·getD-append}
 use lib.Seq.{getD-drop, drop-drop, drop-append-seam, getD-append-seam}
 use Rattle.model.specs.Refusals.{lastOf}
 use Rattle.optimum.specs.Loads.{At}
-use Rattle.optimum.specs.Best.{itself, least, loadAt, topLoad, fill, gapCost, best}
+use Rattle.optimum.specs.Best.{itself, least, loadAt, topLoad, fill, gapCost, best, fillBest}
 use Rattle.optimum.specs.Split.{Split, Fill}
 use Rattle.optimum.proofs.First.{least-below}
 use Rattle.optimum.proofs.Recurrence.{fill-member, best-none, best-is}
@@ -67,10 +67,10 @@ module _ (Q own : ℕ) (rate : ℕ → ℕ) (ws : List ℕ) where
         let t = topLoad Q ws i m in
         let last : lastOf us ≡ t = at-top Q ws i m r us at (fill-length Q own rate f) q in
         let members : r ≡ Q - 1 = omega arith in
-        let same : fill Q ws (best Q own rate ws) (rate (lastOf us)) i r m ≡ fill Q ws (best Q own rate ws) (rate t) i (Q - 1) m =
-        ap (λ (n : ℕ). fill Q ws (best Q own rate ws) (rate n) i r m) last
-        ∙ ap (λ (n : ℕ). fill Q ws (best Q own rate ws) (rate t) i n m) members in
-        let run : best Q own rate ws i v ≡ itself own t + fill Q ws (best Q own rate ws) (rate t) i (Q - 1) m =
+        let same : fillBest Q own rate ws (rate (lastOf us)) i r m ≡ fillBest Q own rate ws (rate t) i (Q - 1) m =
+        ap (λ (n : ℕ). fillBest Q own rate ws (rate n) i r m) last
+        ∙ ap (λ (n : ℕ). fillBest Q own rate ws (rate t) i n m) members in
+        let run : best Q own rate ws i v ≡ itself own t + fillBest Q own rate ws (rate t) i (Q - 1) m =
         ap (λ (n : ℕ). best Q own rate ws i n) e ∙ best-is Q own rate ws i m in
         omega (arith, fill-below f i at, ap (λ (n : ℕ). itself own n) last)
 
@@ -79,12 +79,12 @@ module _ (Q own : ℕ) (rate : ℕ → ℕ) (ws : List ℕ) where
         → Fill Q own rate ρ us r m d
         → (i : ℕ)
         → At ws i us
-        → fill Q ws (best Q own rate ws) ρ i r m ≤ d
+        → fillBest Q own rate ws ρ i r m ≤ d
     fill-below {ρ} {us} {r} {m} {d} (Fill.lowest gap w c z s u y) i at =
         let here : At ws i (gap ++ (w ∷ [])) = subst (λ (l : List ℕ). At ws i l) u at in
         let load : loadAt Q ws i m 0 ≡ w = at-member ws i gap w (m * Q + 0) here (omega (arith, split-length Q own rate s)) in
-        let row : fill Q ws (best Q own rate ws) ρ i r m ≡ ρ * loadAt Q ws i m 0 + best Q own rate ws i m =
-        ap (λ (n : ℕ). fill Q ws (best Q own rate ws) ρ i n m) z in
+        let row : fillBest Q own rate ws ρ i r m ≡ ρ * loadAt Q ws i m 0 + best Q own rate ws i m =
+        ap (λ (n : ℕ). fillBest Q own rate ws ρ i n m) z in
         omega (arith, ap (λ (n : ℕ). ρ * n) load, best-below s i (at-front ws i gap (w ∷ []) here))
     fill-below {ρ} {us} {r} {m} {d} (Fill.member s l g low gap w c e z n f t u y) i at =
         let b = best Q own rate ws in

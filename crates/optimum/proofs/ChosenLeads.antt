@@ -14,9 +14,9 @@ use Rattle.model.specs.Plan.{members}
 use Rattle.model.specs.Power.{power}
 use Rattle.model.specs.TieRule.{Leads}
 use Rattle.optimum.specs.Loads.{Sorted, At}
-use Rattle.optimum.specs.Best.{least, loadAt, fill, gapCost, best}
+use Rattle.optimum.specs.Best.{least, loadAt, gapCost, best, fillBest}
 use Rattle.optimum.specs.Shape.{Run, Gaps}
-use Rattle.optimum.specs.Chosen.{chosen, planGaps, planRun}
+use Rattle.optimum.specs.Chosen.{chosen, planRun, bestGap, walk}
 use Rattle.optimum.proofs.First.{first-before, least-below}
 use Rattle.optimum.proofs.Recurrence.{fill-member}
 use Rattle.optimum.proofs.BestSplit.{best-below, fill-below}
@@ -87,7 +87,7 @@ module _ (Q own : ℕ) (rate : ℕ → ℕ) (ws : List ℕ) (pos : 0 < Q) where
       (run : Run Q (base + l) g gap)
       (above : base + l < x)
       (parts : l + g ≡ m)
-      (cheap : charged own rate ρ x base m plan us ≤ fill Q ws (best Q own rate ws) ρ i (suc s) m) where
+      (cheap : charged own rate ρ x base m plan us ≤ fillBest Q own rate ws ρ i (suc s) m) where
     cost : ℕ → ℕ
     cost = gapCost Q ws (best Q own rate ws) ρ i s m
 
@@ -96,16 +96,16 @@ module _ (Q own : ℕ) (rate : ℕ → ℕ) (ws : List ℕ) (pos : 0 < Q) where
         best-below Q own rate ws (run-split Q own rate (base + l) g gap (cut .inner) run (cut .gap-length) (cut .inner-sorted))
         (i + (l * Q + suc s)) (cut .inner-at)
 
-    low-below : fill Q ws (best Q own rate ws) ρ i s l ≤ charged own rate ρ x base l low (cut .lower)
+    low-below : fillBest Q own rate ws ρ i s l ≤ charged own rate ρ x base l low (cut .lower)
     low-below =
         fill-below Q own rate ws (gaps-fill Q own rate ρ x base s l low (cut .lower) gaps above (cut .low-length) (cut .lower-sorted))
         i (cut .lower-at)
 
-    cost-here : cost g ≡ best Q own rate ws (i + (l * Q + suc s)) g + fill Q ws (best Q own rate ws) ρ i s l
+    cost-here : cost g ≡ best Q own rate ws (i + (l * Q + suc s)) g + fillBest Q own rate ws ρ i s l
     unfolding cost gapCost
     cost-here =
         let below : m - g ≡ l = omega arith in
-        ap (λ (n : ℕ). best Q own rate ws (i + (n * Q + suc s)) g + fill Q ws (best Q own rate ws) ρ i s n) below
+        ap (λ (n : ℕ). best Q own rate ws (i + (n * Q + suc s)) g + fillBest Q own rate ws ρ i s n) below
 
     cheap-parts : power own rate (base + l) g gap (cut .inner) + charged own rate ρ x base l low (cut .lower) ≤ least m cost
     unfolding cost
@@ -117,16 +117,16 @@ module _ (Q own : ℕ) (rate : ℕ → ℕ) (ws : List ℕ) (pos : 0 < Q) where
         omega (arith, ap (λ (n : ℕ). ρ * n) load, fill-member Q ws (best Q own rate ws) ρ i s m)
 
     -- no fewer islands than are chosen
-    chosen-least : chosen Q ws (best Q own rate ws) ρ i s m ≤ g
+    chosen-least : bestGap Q own rate ws ρ i s m ≤ g
     unfolding cost chosen least
     chosen-least =
-        elim (decLt g (chosen Q ws (best Q own rate ws) ρ i s m)) [
+        elim (decLt g (bestGap Q own rate ws ρ i s m)) [
           | yes fewer ↦ absurd (omega (arith, first-before m cost g fewer, cost-here, gap-below, low-below, cheap-parts))
           | no enough ↦ omega arith
         ]
 
     -- and where it has as many, the rest costs as little as it can
-    rest-cheap : charged own rate ρ x base l low (cut .lower) ≤ fill Q ws (best Q own rate ws) ρ i s l
+    rest-cheap : charged own rate ρ x base l low (cut .lower) ≤ fillBest Q own rate ws ρ i s l
     rest-cheap = omega (arith, least-below m cost g (omega arith), cost-here, gap-below, cheap-parts)
 
   -- the highest members are the same; below them the chosen members lead, or the next stands higher already
@@ -138,12 +138,12 @@ module _ (Q own : ℕ) (rate : ℕ → ℕ) (ws : List ℕ) (pos : 0 < Q) where
       → Run Q (base + l) g gap
       → other ≡ low ++ (gap ++ (x ∷ []))
       → base + m < x
-      → chosen Q ws (best Q own rate ws) ρ i s m ≤ g
-      → Leads (members x p (planGaps Q ws (best Q own rate ws) (planRun Q own rate ws) ρ x i base s l)) (members x p low)
-      → Leads (members x p (planGaps Q ws (best Q own rate ws) (planRun Q own rate ws) ρ x i base r m)) (members x p other)
+      → bestGap Q own rate ws ρ i s m ≤ g
+      → Leads (members x p (walk Q own rate ws ρ x i base s l)) (members x p low)
+      → Leads (members x p (walk Q own rate ws ρ x i base r m)) (members x p other)
   with-member ρ x i base r s l g m p low gap other more parts gaps run whole above bound below =
-      let k = chosen Q ws (best Q own rate ws) ρ i s m in
-      let plan : ℕ → ℕ → List ℕ = planGaps Q ws (best Q own rate ws) (planRun Q own rate ws) ρ x i base in
+      let k = bestGap Q own rate ws ρ i s m in
+      let plan : ℕ → ℕ → List ℕ = walk Q own rate ws ρ x i base in
       let within : k ≤ m = chosen-within Q ws (best Q own rate ws) ρ i s m in
       let shape : Gaps Q x base s (m - k) (plan s (m - k)) =
       gaps-run Q own rate ws pos ρ x i base s (m - k) in
@@ -173,12 +173,12 @@ module _ (Q own : ℕ) (rate : ℕ → ℕ) (ws : List ℕ) (pos : 0 < Q) where
       → length other ≡ length us
       → At ws i us
       → Sorted us
-      → charged own rate ρ x base m other us ≤ fill Q ws (best Q own rate ws) ρ i r m
-      → Leads (members x p (planGaps Q ws (best Q own rate ws) (planRun Q own rate ws) ρ x i base r m)) (members x p other)
+      → charged own rate ρ x base m other us ≤ fillBest Q own rate ws ρ i r m
+      → Leads (members x p (walk Q own rate ws ρ x i base r m)) (members x p other)
   gaps-lead ρ x i base r m p other us (Gaps.lowest gap none run whole) above len at sorted cheap =
       let b = best Q own rate ws in
-      let ours : planGaps Q ws b (planRun Q own rate ws) ρ x i base r m ≡ planRun Q own rate ws i base m ++ (x ∷ []) =
-      ap (λ (n : ℕ). planGaps Q ws b (planRun Q own rate ws) ρ x i base n m) none
+      let ours : walk Q own rate ws ρ x i base r m ≡ planRun Q own rate ws i base m ++ (x ∷ []) =
+      ap (λ (n : ℕ). walk Q own rate ws ρ x i base n m) none
       ∙ gaps-lowest Q ws b (planRun Q own rate ws) ρ x i base m in
       leads-same _ _
       (ap (λ (k : List ℕ). members x p k) ours
@@ -187,9 +187,9 @@ module _ (Q own : ℕ) (rate : ℕ → ℕ) (ws : List ℕ) (pos : 0 < Q) where
   gaps-lead ρ x i base r m p other us (Gaps.member s l g low gap more parts gaps run whole) above len at sorted cheap =
       let cut : Member Q own rate ws ρ x i base s l g low gap other us =
       member-cut Q own rate ws ρ x i base s l g low gap other us whole len (omega arith) gaps run at sorted in
-      let cheap′ : charged own rate ρ x base m other us ≤ fill Q ws (best Q own rate ws) ρ i (suc s) m =
-      le-trans cheap (le-of-eq (ap (λ (n : ℕ). fill Q ws (best Q own rate ws) ρ i n m) more)) in
-      let bound : chosen Q ws (best Q own rate ws) ρ i s m ≤ g =
+      let cheap′ : charged own rate ρ x base m other us ≤ fillBest Q own rate ws ρ i (suc s) m =
+      le-trans cheap (le-of-eq (ap (λ (n : ℕ). fillBest Q own rate ws ρ i n m) more)) in
+      let bound : bestGap Q own rate ws ρ i s m ≤ g =
       chosen-least ρ x i base s l g m low gap other us cut gaps run (omega arith) (sym parts) cheap′ in
       with-member ρ x i base r s l g m p low gap other more (sym parts) gaps run whole above bound
       (gaps-lead ρ x i base s l p low (cut .lower) gaps (omega arith) (cut .low-length) (cut .lower-at) (cut .lower-sorted)

@@ -10,10 +10,10 @@ use native.Mathlib.Omega.{arith}
 use lib.ListN.{length, length-append}
 use Rattle.model.specs.Power.{each, held, heaviest, sum, power}
 use Rattle.optimum.specs.Loads.{Sorted, At}
-use Rattle.optimum.specs.Best.{itself, least, loadAt, topLoad, fill, gapCost, best}
+use Rattle.optimum.specs.Best.{itself, least, loadAt, topLoad, fill, gapCost, best, fillBest}
 use Rattle.optimum.specs.Shape.{Run, Gaps}
 use Rattle.optimum.specs.Split.{Split}
-use Rattle.optimum.specs.Chosen.{chosen, planGaps, planRun}
+use Rattle.optimum.specs.Chosen.{chosen, planRun, bestGap, walk}
 use Rattle.optimum.proofs.Recurrence.{fill-member, best-none, best-is}
 use Rattle.optimum.proofs.BestSplit.{at-top}
 use Rattle.optimum.proofs.Shapes.{run-length, gaps-length}
@@ -37,10 +37,10 @@ module _ (Q own : ℕ) (rate : ℕ → ℕ) (ws : List ℕ) (pos : 0 < Q) where
       (ρ x i base r l g : ℕ) (low gap plan us : List ℕ)
       → (cut : Member Q own rate ws ρ x i base r l g low gap plan us)
       → power own rate (base + l) g gap (cut .inner) ≡ best Q own rate ws (i + (l * Q + suc r)) g
-      → charged own rate ρ x base l low (cut .lower) ≡ fill Q ws (best Q own rate ws) ρ i r l
+      → charged own rate ρ x base l low (cut .lower) ≡ fillBest Q own rate ws ρ i r l
       → charged own rate ρ x base (l + g) plan us
       ≡ ρ * loadAt Q ws i (l + g) (suc r)
-      + (best Q own rate ws (i + (l * Q + suc r)) g + fill Q ws (best Q own rate ws) ρ i r l)
+      + (best Q own rate ws (i + (l * Q + suc r)) g + fillBest Q own rate ws ρ i r l)
   member-attains ρ x i base r l g low gap plan us cut upper lower = omega (arith, cut .cost, ap (λ (n : ℕ). ρ * n) (cut .load-is))
 
   gaps-power :
@@ -50,8 +50,8 @@ module _ (Q own : ℕ) (rate : ℕ → ℕ) (ws : List ℕ) (pos : 0 < Q) where
       → At ws i us
       → length us ≡ m * Q + suc r
       → Sorted us
-      → charged own rate ρ x base m (planGaps Q ws (best Q own rate ws) (planRun Q own rate ws) ρ x i base r m) us
-      ≡ fill Q ws (best Q own rate ws) ρ i r m
+      → charged own rate ρ x base m (walk Q own rate ws ρ x i base r m) us
+      ≡ fillBest Q own rate ws ρ i r m
   unfolding fill gapCost least chosen
   gaps-power ρ x i base zero m us inner above at len sorted =
       let p = planRun Q own rate ws i base m in
@@ -59,7 +59,7 @@ module _ (Q own : ℕ) (rate : ℕ → ℕ) (ws : List ℕ) (pos : 0 < Q) where
       let places : length (p ++ (x ∷ [])) ≡ length us =
       omega (arith, length-append p (x ∷ []), run-length Q base m p shape) in
       let cut = lowest-cut Q own rate ws ρ x i base m p (p ++ (x ∷ [])) us refl places above shape at sorted in
-      let draws : charged own rate ρ x base m (p ++ (x ∷ [])) us ≡ fill Q ws (best Q own rate ws) ρ i 0 m =
+      let draws : charged own rate ρ x base m (p ++ (x ∷ [])) us ≡ fillBest Q own rate ws ρ i 0 m =
       omega (
         arith,
         cut .cost,
@@ -72,16 +72,13 @@ module _ (Q own : ℕ) (rate : ℕ → ℕ) (ws : List ℕ) (pos : 0 < Q) where
   gaps-power ρ x i base (suc r) m us inner above at len sorted =
       ap (λ (k : List ℕ). charged own rate ρ x base m k us)
       (gaps-member Q ws (best Q own rate ws) (planRun Q own rate ws) ρ x i base r m)
-      ∙ step (chosen Q ws (best Q own rate ws) ρ i r m) (m - chosen Q ws (best Q own rate ws) ρ i r m) within (sub-add-cancel within)
-      (λ vs. gaps-power ρ x i base r (m - chosen Q ws (best Q own rate ws) ρ i r m) vs
-      (λ h bound. inner h (le-trans bound (sub-le m (chosen Q ws (best Q own rate ws) ρ i r m)))))
+      ∙ step (bestGap Q own rate ws ρ i r m) (m - bestGap Q own rate ws ρ i r m) within (sub-add-cancel within)
+      (λ vs. gaps-power ρ x i base r (m - bestGap Q own rate ws ρ i r m) vs
+      (λ h bound. inner h (le-trans bound (sub-le m (bestGap Q own rate ws ρ i r m)))))
       ∙ sym (fill-member Q ws (best Q own rate ws) ρ i r m)
     where
-      within : chosen Q ws (best Q own rate ws) ρ i r m ≤ m
+      within : bestGap Q own rate ws ρ i r m ≤ m
       within = chosen-within Q ws (best Q own rate ws) ρ i r m
-
-      Low : ℕ → List ℕ
-      Low l = planGaps Q ws (best Q own rate ws) (planRun Q own rate ws) ρ x i base r l
 
       step :
           (g l : ℕ)
@@ -92,33 +89,35 @@ module _ (Q own : ℕ) (rate : ℕ → ℕ) (ws : List ℕ) (pos : 0 < Q) where
           → At ws i vs
           → length vs ≡ l * Q + suc r
           → Sorted vs
-          → charged own rate ρ x base l (Low l) vs ≡ fill Q ws (best Q own rate ws) ρ i r l)
-          → charged own rate ρ x base m (Low l ++ (planRun Q own rate ws (i + (l * Q + suc r)) (base + l) g ++ (x ∷ []))) us
+          → charged own rate ρ x base l (walk Q own rate ws ρ x i base r l) vs ≡ fillBest Q own rate ws ρ i r l)
+          → charged own rate ρ x base m
+          (walk Q own rate ws ρ x i base r l ++ (planRun Q own rate ws (i + (l * Q + suc r)) (base + l) g ++ (x ∷ []))) us
           ≡ ρ * loadAt Q ws i m (suc r)
-          + (best Q own rate ws (i + (l * Q + suc r)) g + fill Q ws (best Q own rate ws) ρ i r l)
+          + (best Q own rate ws (i + (l * Q + suc r)) g + fillBest Q own rate ws ρ i r l)
       step g l bound parts below =
           let islands : m * Q ≡ l * Q + g * Q = ap (λ (n : ℕ). n * Q) (sym parts) ∙ add-mul l g Q in
+          let low = walk Q own rate ws ρ x i base r l in
           let gap = planRun Q own rate ws (i + (l * Q + suc r)) (base + l) g in
-          let low-shape : Gaps Q x base r l (Low l) =
+          let low-shape : Gaps Q x base r l low =
           gaps-run Q own rate ws pos ρ x i base r l in
           let gap-shape : Run Q (base + l) g gap = run-chosen Q own rate ws pos (i + (l * Q + suc r)) (base + l) g in
-          let plan = Low l ++ (gap ++ (x ∷ [])) in
+          let plan = low ++ (gap ++ (x ∷ [])) in
           let places : length plan ≡ length us =
           omega (
             arith,
-            length-append (Low l) (gap ++ (x ∷ [])),
+            length-append low (gap ++ (x ∷ [])),
             length-append gap (x ∷ []),
-            gaps-length Q x base r l (Low l) low-shape,
+            gaps-length Q x base r l low low-shape,
             run-length Q (base + l) g gap gap-shape,
           ) in
-          let cut : Member Q own rate ws ρ x i base r l g (Low l) gap plan us =
-          member-cut Q own rate ws ρ x i base r l g (Low l) gap plan us refl places (omega arith) low-shape gap-shape at sorted in
+          let cut : Member Q own rate ws ρ x i base r l g low gap plan us =
+          member-cut Q own rate ws ρ x i base r l g low gap plan us refl places (omega arith) low-shape gap-shape at sorted in
           subst
           (λ (n : ℕ).
           charged own rate ρ x base n plan us
           ≡ ρ * loadAt Q ws i n (suc r)
-          + (best Q own rate ws (i + (l * Q + suc r)) g + fill Q ws (best Q own rate ws) ρ i r l)) parts
-          (member-attains ρ x i base r l g (Low l) gap plan us cut
+          + (best Q own rate ws (i + (l * Q + suc r)) g + fillBest Q own rate ws ρ i r l)) parts
+          (member-attains ρ x i base r l g low gap plan us cut
           (inner g bound (i + (l * Q + suc r)) (base + l) (cut .inner) (cut .inner-at) (cut .inner-length) (cut .inner-sorted))
           (below (cut .lower) (omega arith) (cut .lower-at) (cut .lower-length) (cut .lower-sorted)))
 
@@ -131,7 +130,7 @@ module _ (Q own : ℕ) (rate : ℕ → ℕ) (ws : List ℕ) (pos : 0 < Q) where
       let b = best Q own rate ws in
       let t = topLoad Q ws i m in
       let x = base + suc m in
-      let plan = planGaps Q ws b (planRun Q own rate ws) (rate t) x i base (Q - 1) m in
+      let plan = walk Q own rate ws (rate t) x i base (Q - 1) m in
       let shape : Gaps Q x base (Q - 1) m plan =
       gaps-run Q own rate ws pos (rate t) x i base (Q - 1) m in
       let members : suc (Q - 1) ≡ Q = omega arith in

@@ -18,9 +18,9 @@ use Rattle.model.specs.Plan.{Full, count, members}
 use Rattle.model.specs.Power.{held, heaviest, power}
 use Rattle.model.specs.TieRule.{Leads, Gap, Least, Taken, ByRule}
 use Rattle.optimum.specs.Loads.{AtMost, Sorted, NeverFalls, At}
-use Rattle.optimum.specs.Best.{topLoad, fill, best}
+use Rattle.optimum.specs.Best.{topLoad, best, fillBest}
 use Rattle.optimum.specs.Shape.{Run, Gaps}
-use Rattle.optimum.specs.Chosen.{chosen, planGaps, planRun}
+use Rattle.optimum.specs.Chosen.{planRun, bestGap, walk}
 use Rattle.optimum.proofs.Recurrence.{best-is}
 use Rattle.optimum.proofs.BestSplit.{at-top}
 use Rattle.optimum.proofs.Places.{full-length}
@@ -121,7 +121,7 @@ module _
       let heavy : heaviest (held x other (loads .us)) ≡ t =
       gaps-heaviest Q own rate x base (Q - 1) m other (loads .us) gaps len (loads .us-sorted)
       ∙ at-top Q ws i m (Q - 1) (loads .us) (loads .at) places one-less in
-      let charges : charged own rate (rate t) x base m other (loads .us) ≤ fill Q ws (best Q own rate ws) (rate t) i (Q - 1) m =
+      let charges : charged own rate (rate t) x base m other (loads .us) ≤ fillBest Q own rate ws (rate t) i (Q - 1) m =
       omega (
         arith,
         power-at i base (suc m) other (loads .us) (loads .at) len,
@@ -190,7 +190,7 @@ module _
       → ((j k g : ℕ) → g ≤ m → j + g * Q ≤ length ws → ByRule Q own rate ws j k g (planRun Q own rate ws j k g))
       → base + m < x
       → i + (m * Q + suc r) ≤ length ws
-      → Gap x (planGaps Q ws (best Q own rate ws) (planRun Q own rate ws) ρ x i base r m) b c d
+      → Gap x (walk Q own rate ws ρ x i base r m) b c d
       → ByRule Q own rate ws (i + length b) (base + (length b - count x b) / Q) (length c / Q) c
   unfolding count
   gaps-rule ρ x i base zero m b c d inner above fits gap =
@@ -206,40 +206,38 @@ module _
       (subst (λ (n : ℕ). ByRule Q own rate ws n (base + 0) m p) here
       (subst (λ (n : ℕ). ByRule Q own rate ws i n m p) (sym (add-zero base)) (inner i base m (le-refl m) (omega arith))))
   gaps-rule ρ x i base (suc r) m b c d inner above fits gap =
-      step (chosen Q ws (best Q own rate ws) ρ i r m) (m - chosen Q ws (best Q own rate ws) ρ i r m) within (sub-add-cancel within)
+      step (bestGap Q own rate ws ρ i r m) (m - bestGap Q own rate ws ρ i r m) within (sub-add-cancel within)
       (subst (λ (l : List ℕ). Gap x l b c d) (gaps-member Q ws (best Q own rate ws) (planRun Q own rate ws) ρ x i base r m) gap)
-      (λ d′. gaps-rule ρ x i base r (m - chosen Q ws (best Q own rate ws) ρ i r m) b c d′
-      (λ j k g bound. inner j k g (le-trans bound (sub-le m (chosen Q ws (best Q own rate ws) ρ i r m)))))
+      (λ d′. gaps-rule ρ x i base r (m - bestGap Q own rate ws ρ i r m) b c d′
+      (λ j k g bound. inner j k g (le-trans bound (sub-le m (bestGap Q own rate ws ρ i r m)))))
     where
-      within : chosen Q ws (best Q own rate ws) ρ i r m ≤ m
+      within : bestGap Q own rate ws ρ i r m ≤ m
       within = chosen-within Q ws (best Q own rate ws) ρ i r m
-
-      Low : ℕ → List ℕ
-      Low l = planGaps Q ws (best Q own rate ws) (planRun Q own rate ws) ρ x i base r l
 
       step :
           (g l : ℕ)
           → g ≤ m
           → l + g ≡ m
-          → Gap x (Low l ++ (planRun Q own rate ws (i + (l * Q + suc r)) (base + l) g ++ (x ∷ []))) b c d
+          → Gap x (walk Q own rate ws ρ x i base r l ++ (planRun Q own rate ws (i + (l * Q + suc r)) (base + l) g ++ (x ∷ []))) b c d
           → ((d′ : List ℕ)
           → base + l < x
           → i + (l * Q + suc r) ≤ length ws
-          → Gap x (Low l) b c d′
+          → Gap x (walk Q own rate ws ρ x i base r l) b c d′
           → ByRule Q own rate ws (i + length b) (base + (length b - count x b) / Q) (length c / Q) c)
           → ByRule Q own rate ws (i + length b) (base + (length b - count x b) / Q) (length c / Q) c
       step g l bound parts here below =
           let islands : m * Q ≡ l * Q + g * Q = ap (λ (n : ℕ). n * Q) (sym parts) ∙ add-mul l g Q in
+          let low = walk Q own rate ws ρ x i base r l in
           let p = planRun Q own rate ws (i + (l * Q + suc r)) (base + l) g in
           let run : Run Q (base + l) g p = run-chosen Q own rate ws pos (i + (l * Q + suc r)) (base + l) g in
-          let shape : Gaps Q x base r l (Low l) =
+          let shape : Gaps Q x base r l low =
           gaps-run Q own rate ws pos ρ x i base r l in
-          elim (gap-member x (Low l) p b c d (run-outside Q (base + l) g p run x (inr (omega arith)))
-          (gaps-end Q x base r l (Low l) shape) here) [
+          elim (gap-member x low p b c d (run-outside Q (base + l) g p run x (inr (omega arith)))
+          (gaps-end Q x base r l low shape) here) [
             | inl found ↦
                 gap-numbers x i base l g (suc r) b c p (found .1) (run-length Q (base + l) g p run)
-                (ap (λ (k : List ℕ). length k) (found .0) ∙ gaps-length Q x base r l (Low l) shape)
-                (ap (λ (k : List ℕ). count x k) (found .0) ∙ gaps-top Q x base r l (Low l) shape (omega arith))
+                (ap (λ (k : List ℕ). length k) (found .0) ∙ gaps-length Q x base r l low shape)
+                (ap (λ (k : List ℕ). count x k) (found .0) ∙ gaps-top Q x base r l low shape (omega arith))
                 (inner (i + (l * Q + suc r)) (base + l) g bound (omega arith))
             | inr found ↦ below (found .0) (omega arith) (omega arith) (found .1)
           ]

@@ -11,7 +11,7 @@ use native.Mathlib.Nat.{le-refl, le-trans, not-suc-le-zero, sub-le, sub-add-canc
 use native.Mathlib.Omega.{arith}
 use Rattle.optimum.specs.Best.{topLoad, gapCost, best}
 use Rattle.optimum.specs.Shape.{Run, Gaps}
-use Rattle.optimum.specs.Chosen.{chosen, planGaps, planWithin, planRun}
+use Rattle.optimum.specs.Chosen.{chosen, planGaps, planWithin, planRun, walk}
 use Rattle.optimum.proofs.First.{first-within}
 
 module _ (Q : ℕ) (ws : List ℕ) (b : ℕ → ℕ → ℕ) where
@@ -85,7 +85,7 @@ module _ (Q own : ℕ) (rate : ℕ → ℕ) (ws : List ℕ) where
   pub plan-is :
       (i base m : ℕ)
       → planRun Q own rate ws i base (suc m)
-      ≡ planGaps Q ws (best Q own rate ws) (planRun Q own rate ws) (rate (topLoad Q ws i m)) (base + suc m) i base (Q - 1) m
+      ≡ walk Q own rate ws (rate (topLoad Q ws i m)) (base + suc m) i base (Q - 1) m
   unfolding planRun planWithin
   plan-is i base m =
       let b = best Q own rate ws in
@@ -112,6 +112,6 @@ module _ (Q own : ℕ) (rate : ℕ → ℕ) (ws : List ℕ) where
   pub gaps-run :
       0 < Q
       → (ρ x i base r m : ℕ)
-      → Gaps Q x base r m (planGaps Q ws (best Q own rate ws) (planRun Q own rate ws) ρ x i base r m)
+      → Gaps Q x base r m (walk Q own rate ws ρ x i base r m)
   gaps-run pos ρ x i base r m =
       gaps-chosen Q ws (best Q own rate ws) (planRun Q own rate ws) ρ x i base r m (λ j k g bound. run-chosen pos j k g)

@@ -9,7 +9,7 @@ use mathlib.Core.Path.{_≡_, refl, ap}
 use mathlib.Core.List.{List}
 use native.Mathlib.Nat.{le-refl, not-suc-le-zero, sub-le, le-trans}
 use native.Mathlib.Omega.{arith}
-use Rattle.optimum.specs.Best.{itself, least, loadAt, topLoad, fill, gapCost, bestWithin, best}
+use Rattle.optimum.specs.Best.{itself, least, loadAt, topLoad, fill, gapCost, bestWithin, best, fillBest}
 use Rattle.optimum.proofs.First.{least-same}
 
 pub fill-lowest :
@@ -56,7 +56,7 @@ module _ (Q own : ℕ) (rate : ℕ → ℕ) (ws : List ℕ) where
   pub best-is :
       (i m : ℕ)
       → best Q own rate ws i (suc m)
-      ≡ itself own (topLoad Q ws i m) + fill Q ws (best Q own rate ws) (rate (topLoad Q ws i m)) i (Q - 1) m
+      ≡ itself own (topLoad Q ws i m) + fillBest Q own rate ws (rate (topLoad Q ws i m)) i (Q - 1) m
   unfolding best bestWithin
   best-is i m =
       ap (λ (c : ℕ). itself own (topLoad Q ws i m) + c)

@@ -3,17 +3,16 @@
 --     placed-plan, returned-least, returned-uncrossed    demand 2
 --     returned-demand-2, returned-demand-3    the two demands
 -- Assumes nothing.
-use Prim.Native.Nat.{ℕ, _+_, _*_, _≤_, _<_}
+use Prim.Native.Nat.{ℕ, _*_, _≤_}
 use mathlib.Core.Path.{_≡_, sym, ap, _∙_, subst}
 use mathlib.Core.List.{List}
 use native.Mathlib.Nat.{le-trans, le-of-eq, lt-of-le-of-lt}
 use Rattle.model.specs.Table.{WellRanged}
 use Rattle.model.specs.Job.{Job}
-use Rattle.model.specs.Power.{total, workload}
-use Rattle.model.specs.Exact.{scale, exact, WholeCosts}
+use Rattle.model.specs.Power.{total}
+use Rattle.model.specs.Exact.{scale}
 use Rattle.model.specs.Placement.{Placement}
 use Rattle.model.specs.Plan.{shown}
-use Rattle.model.specs.TieRule.{Uncrossed}
 use Rattle.model.specs.Answer.{Answered}
 use Rattle.optimum.specs.Passed.{Passed, Ruled, returned}
 use Rattle.optimum.specs.Demands.{Demand2, Demand3}

@@ -7,6 +7,7 @@
 --     fill        the least cost of the lowest r + 1 members of an island, with m islands in the gaps below them
 --     gapCost     what the gap below the highest of r + 2 members costs with all below it, if g islands stand in the gap
 --     best        the least total of a run; bestWithin, the same with a bound on its depth
+--     fillBest    `fill` over these bests
 -- A run begins at place i of the list of loads and has v islands. Its inner bests are handed to `fill` as a function, so that what is said
 -- of it holds of any table of figures. Assumes nothing.
 use Prim.Native.Nat.{ℕ, zero, suc, _+_, _-_, _*_}
@@ -57,3 +58,7 @@ module _ (Q own : ℕ) (rate : ℕ → ℕ) (ws : List ℕ) where
 
   unfoldable pub best : ℕ → ℕ → ℕ
   best i v = bestWithin v i v
+
+  -- `fill` over these bests
+  abbrev pub fillBest : ℕ → ℕ → ℕ → ℕ → ℕ
+  fillBest = fill Q ws best

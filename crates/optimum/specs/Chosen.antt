@@ -2,6 +2,7 @@
 --     chosen      how many islands the top gap gets
 --     planGaps    the gap walker: the lowest r + 1 members of the island x with m islands in the gaps below them
 --     planRun     the run writer: a run that begins at place i, its islands base + 1 to base + v; planWithin, with a bound on its depth
+--     bestGap, walk    `chosen` and `planGaps` over the bests and over these runs
 -- Assumes nothing.
 use Prim.Native.Nat.{ℕ, zero, suc, _+_, _-_, _*_}
 use mathlib.Core.List.{List, [], _∷_, _++_}
@@ -29,3 +30,11 @@ module _ (Q : ℕ) (ws : List ℕ) (b : ℕ → ℕ → ℕ) where
 
 unfoldable pub planRun : ℕ → ℕ → (ℕ → ℕ) → List ℕ → ℕ → ℕ → ℕ → List ℕ
 planRun Q own rate ws i base v = planWithin Q ws (best Q own rate ws) rate v i base v
+
+-- over the bests of the recurrence and the runs of this function: what the gap below a member gets, and the walker
+module _ (Q own : ℕ) (rate : ℕ → ℕ) (ws : List ℕ) where
+  abbrev pub bestGap : ℕ → ℕ → ℕ → ℕ → ℕ
+  bestGap = chosen Q ws (best Q own rate ws)
+
+  abbrev pub walk : ℕ → ℕ → ℕ → ℕ → ℕ → ℕ → List ℕ
+  walk = planGaps Q ws (best Q own rate ws) (planRun Q own rate ws)
