@@ -1,5 +1,6 @@
 -- What an answer fixes.
 --     answer-once         two answers to one job are equal in number, total and both buffers
+--     answer-planned      a job that passes every condition has an answer, with the plan function's plan
 --     answer-passed       an accepted job passes every condition
 --     answer-full, answer-ruled    its full plan, which is by the rule
 --     returned-plan       the plan buffer begins with what is shown of that plan
@@ -8,6 +9,7 @@
 use Prim.Native.Nat.{ℕ}
 use mathlib.Core.Path.{_≡_, refl, sym, ap, _∙_, subst}
 use mathlib.Core.List.{List, _++_}
+use native.Mathlib.Nat.{not-suc-le-zero}
 use native.Mathlib.Decide.{decLt}
 use native.Mathlib.Omega.{arith}
 use lib.ListN.{length, take, drop}
@@ -15,13 +17,14 @@ use lib.Seq.{take-at}
 use Rattle.model.specs.Job.{Job}
 use Rattle.model.specs.Power.{total, levels}
 use Rattle.model.specs.Plan.{shown}
-use Rattle.model.specs.Refusals.{Tried, conditions}
+use Rattle.model.specs.Refusals.{RoomEnough, Tried, conditions}
 use Rattle.model.specs.Answer.{Accepted, Kept, Answered}
 use Rattle.model.proofs.Trying.{tried-one}
+use Rattle.optimum.specs.OfJob.{bestOf, planOf}
 use Rattle.optimum.specs.Passed.{Passed, Ruled, returned}
 use Rattle.optimum.specs.Demands.{SameAnswer}
-use Rattle.optimum.proofs.DemandTwo.{ruled-one, ruled-placement}
-use Rattle.optimum.proofs.Passing.{conditions-hold}
+use Rattle.optimum.proofs.DemandTwo.{plan-ruled, plan-placement, plan-total, ruled-one, ruled-placement, ruled-least}
+use Rattle.optimum.proofs.Passing.{conditions-hold, hold-conditions}
 
 module _ (job : Job) (plan₀ levels₀ : List ℕ) where
   accepted-once :
@@ -62,6 +65,28 @@ module _ (job : Job) (plan₀ levels₀ : List ℕ) where
             let rest = accepted-once r r′ p l p′ l′ passed (one .accepted none) (other .accepted (sym number ∙ none)) in
             record { number = number; totals = rest .0; plans = rest .1; levels = rest .2 }
       ]
+
+  -- a number 0 with the plan function's plan is an answer
+  pub answer-planned :
+      Passed job
+      → RoomEnough job (length plan₀) (length levels₀)
+      → Answered job plan₀ levels₀ 0 (bestOf job) (shown job (planOf job) ++ drop (length (job .loads)) plan₀)
+      (levels job (shown job (planOf job)) ++ drop (job .islands) levels₀)
+  answer-planned passed room =
+      record {
+        tried = hold-conditions job (length plan₀) (length levels₀) passed room;
+        refused = λ some. absurd (not-suc-le-zero some);
+        accepted = λ none.
+            record {
+              full = planOf job;
+              by-rule = plan-ruled job passed;
+              plan-bytes = refl;
+              placement = plan-placement job passed;
+              least = ruled-least job passed (planOf job) (plan-ruled job passed);
+              reported-total = sym (plan-total job passed);
+              level-bytes = refl;
+            };
+      }
 
   module _ (reported : ℕ) (planned leveled : List ℕ) (answer : Answered job plan₀ levels₀ 0 reported planned leveled) where
     pub answer-passed : Passed job

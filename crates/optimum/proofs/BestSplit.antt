@@ -1,5 +1,5 @@
 -- No split of a run costs less than its best.
---     at-start, at-front, at-behind, at-load, at-top, at-member    loads that stand at a place, and their parts
+--     at-start, at-front, at-behind, at-top, at-member    loads that stand at a place, and their parts
 --     best-below    the best of a run is at most the cost of every split of its loads
 --     fill-below    the same of the lowest members of an island with the gaps below them
 -- Assumes nothing.
@@ -15,7 +15,7 @@ use Rattle.optimum.specs.Loads.{At}
 use Rattle.optimum.specs.Best.{itself, least, loadAt, topLoad, fill, gapCost, best, fillBest}
 use Rattle.optimum.specs.Split.{Split, Fill}
 use Rattle.optimum.proofs.First.{least-below}
-use Rattle.optimum.proofs.Recurrence.{fill-member, best-none, best-is}
+use Rattle.optimum.proofs.Recurrence.{fill-lowest, fill-member, best-none, best-is}
 use Rattle.optimum.proofs.Splits.{split-length, fill-length}
 
 pub at-start : (us : List ℕ) → At us 0 us
@@ -58,7 +58,7 @@ at-member ws i us w k at len =
 
 module _ (Q own : ℕ) (rate : ℕ → ℕ) (ws : List ℕ) where
   mutual
-    unfolding fill loadAt gapCost
+    unfolding loadAt gapCost
 
     pub best-below : {us : List ℕ} {v c : ℕ} → Split Q own rate us v c → (i : ℕ) → At ws i us → best Q own rate ws i v ≤ c
     best-below {us} {v} {c} (Split.empty u e z) i at =
@@ -84,7 +84,7 @@ module _ (Q own : ℕ) (rate : ℕ → ℕ) (ws : List ℕ) where
         let here : At ws i (gap ++ (w ∷ [])) = subst (λ (l : List ℕ). At ws i l) u at in
         let load : loadAt Q ws i m 0 ≡ w = at-member ws i gap w (m * Q + 0) here (omega (arith, split-length Q own rate s)) in
         let row : fillBest Q own rate ws ρ i r m ≡ ρ * loadAt Q ws i m 0 + best Q own rate ws i m =
-        ap (λ (n : ℕ). fillBest Q own rate ws ρ i n m) z in
+        ap (λ (n : ℕ). fillBest Q own rate ws ρ i n m) z ∙ fill-lowest Q ws (best Q own rate ws) ρ i m in
         omega (arith, ap (λ (n : ℕ). ρ * n) load, best-below s i (at-front ws i gap (w ∷ []) here))
     fill-below {ρ} {us} {r} {m} {d} (Fill.member s l g low gap w c e z n f t u y) i at =
         let b = best Q own rate ws in

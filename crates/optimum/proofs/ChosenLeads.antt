@@ -1,5 +1,4 @@
 -- Of the plans that attain the best, the chosen one has the greater members at the first difference.
---     member-members    the members of an island with a further member, its gap and all below it
 --     gaps-lead         the chosen members lead those of every plan of the same shape that costs as little
 -- Assumes nothing.
 use Prim.Native.Nat.{ℕ, suc, _+_, _-_, _*_, _≤_, _<_}
@@ -30,24 +29,24 @@ use Rattle.optimum.proofs.ChosenRun.{chosen-within, gaps-lowest, gaps-m
 
 module _ (Q : ℕ) where
   -- the one member of a plan with no other below it
-  lowest-members :
+  shaped-lowest :
       (x p base m : ℕ) (gap : List ℕ)
       → Run Q base m gap
       → base + m < x
       → members x p (gap ++ (x ∷ [])) ≡ (p + m * Q) ∷ []
-  lowest-members x p base m gap run above =
+  shaped-lowest x p base m gap run above =
       members-last x p gap
       ∙ ap (λ (l : List ℕ). (p + length gap) ∷ l) (members-absent x p gap (run-outside Q base m gap run x (inr above)))
       ∙ ap (λ (n : ℕ). (p + n) ∷ []) (run-length Q base m gap run)
 
-  member-members :
+  shaped-members :
       (x p base s l g m : ℕ) (low gap : List ℕ)
       → Gaps Q x base s l low
       → Run Q (base + l) g gap
       → l + g ≡ m
       → base + m < x
       → members x p (low ++ (gap ++ (x ∷ []))) ≡ (p + (m * Q + suc s)) ∷ members x p low
-  member-members x p base s l g m low gap gaps run parts above =
+  shaped-members x p base s l g m low gap gaps run parts above =
       let islands : m * Q ≡ l * Q + g * Q = ap (λ (n : ℕ). n * Q) (sym parts) ∙ add-mul l g Q in
       let places : p + (length low + length gap) ≡ p + (m * Q + suc s) =
       omega (arith, gaps-length Q x base s l low gaps, run-length Q (base + l) g gap run) in
@@ -117,9 +116,9 @@ module _ (Q own : ℕ) (rate : ℕ → ℕ) (ws : List ℕ) (pos : 0 < Q) where
         omega (arith, ap (λ (n : ℕ). ρ * n) load, fill-member Q ws (best Q own rate ws) ρ i s m)
 
     -- no fewer islands than are chosen
-    chosen-least : bestGap Q own rate ws ρ i s m ≤ g
+    gap-no-fewer : bestGap Q own rate ws ρ i s m ≤ g
     unfolding cost chosen least
-    chosen-least =
+    gap-no-fewer =
         elim (decLt g (bestGap Q own rate ws ρ i s m)) [
           | yes fewer ↦ absurd (omega (arith, first-before m cost g fewer, cost-here, gap-below, low-below, cheap-parts))
           | no enough ↦ omega arith
@@ -150,11 +149,11 @@ module _ (Q own : ℕ) (rate : ℕ → ℕ) (ws : List ℕ) (pos : 0 < Q) where
       let ours : members x p (plan r m) ≡ (p + (m * Q + suc s)) ∷ members x p (plan s (m - k)) =
       ap (λ (n : ℕ). members x p (plan n m)) more
       ∙ ap (λ (n : List ℕ). members x p n) (gaps-member Q ws (best Q own rate ws) (planRun Q own rate ws) ρ x i base s m)
-      ∙ member-members Q x p base s (m - k) k m (plan s (m - k))
+      ∙ shaped-members Q x p base s (m - k) k m (plan s (m - k))
       (planRun Q own rate ws (i + ((m - k) * Q + suc s)) (base + (m - k)) k) shape
       (run-chosen Q own rate ws pos (i + ((m - k) * Q + suc s)) (base + (m - k)) k) (sub-add-cancel within) above in
       let theirs : members x p other ≡ (p + (m * Q + suc s)) ∷ members x p low =
-      ap (λ (n : List ℕ). members x p n) whole ∙ member-members Q x p base s l g m low gap gaps run parts above in
+      ap (λ (n : List ℕ). members x p n) whole ∙ shaped-members Q x p base s l g m low gap gaps run parts above in
       let tails : Leads (members x p (plan s (m - k))) (members x p low) =
       elim (ℕ-discrete k g) [
         | yes e ↦
@@ -182,15 +181,15 @@ module _ (Q own : ℕ) (rate : ℕ → ℕ) (ws : List ℕ) (pos : 0 < Q) where
       ∙ gaps-lowest Q ws b (planRun Q own rate ws) ρ x i base m in
       leads-same _ _
       (ap (λ (k : List ℕ). members x p k) ours
-      ∙ lowest-members Q x p base m (planRun Q own rate ws i base m) (run-chosen Q own rate ws pos i base m) above
-      ∙ sym (ap (λ (k : List ℕ). members x p k) whole ∙ lowest-members Q x p base m gap run above))
+      ∙ shaped-lowest Q x p base m (planRun Q own rate ws i base m) (run-chosen Q own rate ws pos i base m) above
+      ∙ sym (ap (λ (k : List ℕ). members x p k) whole ∙ shaped-lowest Q x p base m gap run above))
   gaps-lead ρ x i base r m p other us (Gaps.member s l g low gap more parts gaps run whole) above len at sorted cheap =
       let cut : Member Q own rate ws ρ x i base s l g low gap other us =
       member-cut Q own rate ws ρ x i base s l g low gap other us whole len (omega arith) gaps run at sorted in
       let cheap′ : charged own rate ρ x base m other us ≤ fillBest Q own rate ws ρ i (suc s) m =
       le-trans cheap (le-of-eq (ap (λ (n : ℕ). fillBest Q own rate ws ρ i n m) more)) in
       let bound : bestGap Q own rate ws ρ i s m ≤ g =
-      chosen-least ρ x i base s l g m low gap other us cut gaps run (omega arith) (sym parts) cheap′ in
+      gap-no-fewer ρ x i base s l g m low gap other us cut gaps run (omega arith) (sym parts) cheap′ in
       with-member ρ x i base r s l g m p low gap other more (sym parts) gaps run whole above bound
       (gaps-lead ρ x i base s l p low (cut .lower) gaps (omega arith) (cut .low-length) (cut .lower-at) (cut .lower-sorted)
       (rest-cheap ρ x i base s l g m low gap other us cut gaps run (omega arith) (sym parts) cheap′))

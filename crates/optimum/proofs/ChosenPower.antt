@@ -1,6 +1,5 @@
 -- The plan function attains the best.
 --     run-power       the power of a run's plan is its best
---     best-attained   some split of a run costs its best
 -- Assumes nothing.
 use Prim.Native.Nat.{ℕ, zero, suc, _+_, _-_, _*_, _≤_, _<_}
 use mathlib.Core.Path.{_≡_, refl, sym, ap, _∙_, subst}
@@ -10,16 +9,16 @@ use native.Mathlib.Omega.{arith}
 use lib.ListN.{length, length-append}
 use Rattle.model.specs.Power.{each, held, heaviest, sum, power}
 use Rattle.optimum.specs.Loads.{Sorted, At}
-use Rattle.optimum.specs.Best.{itself, least, loadAt, topLoad, fill, gapCost, best, fillBest}
+use Rattle.optimum.specs.Best.{itself, loadAt, topLoad, best, fillBest}
 use Rattle.optimum.specs.Shape.{Run, Gaps}
-use Rattle.optimum.specs.Split.{Split}
-use Rattle.optimum.specs.Chosen.{chosen, planRun, bestGap, walk}
-use Rattle.optimum.proofs.Recurrence.{fill-member, best-none, best-is}
+use Rattle.optimum.specs.Chosen.{planRun, bestGap, walk}
+use Rattle.optimum.proofs.Recurrence.{fill-lowest, best-none, best-is}
+use Rattle.optimum.proofs.BestAttained.{fill-chosen}
 use Rattle.optimum.proofs.BestSplit.{at-top}
 use Rattle.optimum.proofs.Shapes.{run-length, gaps-length}
-use Rattle.optimum.proofs.RunPower.{charged}
+use Rattle.optimum.proofs.RunPower.{charged, power-top}
 use Rattle.optimum.proofs.Cuts.{Member, lowest-cut, member-cut}
-use Rattle.optimum.proofs.RunSplit.{gaps-heaviest, top-drawn, run-split}
+use Rattle.optimum.proofs.RunSplit.{gaps-heaviest}
 use Rattle.optimum.proofs.ChosenRun.{chosen-within, gaps-lowest, gaps-member, gaps-run, plan-is, run-chosen}
 
 module _ (Q own : ℕ) (rate : ℕ → ℕ) (ws : List ℕ) (pos : 0 < Q) where
@@ -52,7 +51,6 @@ module _ (Q own : ℕ) (rate : ℕ → ℕ) (ws : List ℕ) (pos : 0 < Q) where
       → Sorted us
       → charged own rate ρ x base m (walk Q own rate ws ρ x i base r m) us
       ≡ fillBest Q own rate ws ρ i r m
-  unfolding fill gapCost least chosen
   gaps-power ρ x i base zero m us inner above at len sorted =
       let p = planRun Q own rate ws i base m in
       let shape : Run Q base m p = run-chosen Q own rate ws pos i base m in
@@ -64,6 +62,7 @@ module _ (Q own : ℕ) (rate : ℕ → ℕ) (ws : List ℕ) (pos : 0 < Q) where
         arith,
         cut .cost,
         ap (λ (n : ℕ). ρ * n) (cut .load-is),
+        fill-lowest Q ws (best Q own rate ws) ρ i m,
         inner m (le-refl m) i base (cut .inner) (cut .inner-at) (cut .inner-length) (cut .inner-sorted),
       ) in
       ap (λ (l : List ℕ). charged own rate ρ x base m l us)
@@ -75,7 +74,7 @@ module _ (Q own : ℕ) (rate : ℕ → ℕ) (ws : List ℕ) (pos : 0 < Q) where
       ∙ step (bestGap Q own rate ws ρ i r m) (m - bestGap Q own rate ws ρ i r m) within (sub-add-cancel within)
       (λ vs. gaps-power ρ x i base r (m - bestGap Q own rate ws ρ i r m) vs
       (λ h bound. inner h (le-trans bound (sub-le m (bestGap Q own rate ws ρ i r m)))))
-      ∙ sym (fill-member Q ws (best Q own rate ws) ρ i r m)
+      ∙ sym (fill-chosen Q own rate ws ρ i r m)
     where
       within : bestGap Q own rate ws ρ i r m ≤ m
       within = chosen-within Q ws (best Q own rate ws) ρ i r m
@@ -139,7 +138,7 @@ module _ (Q own : ℕ) (rate : ℕ → ℕ) (ws : List ℕ) (pos : 0 < Q) where
       gaps-heaviest Q own rate x base (Q - 1) m plan us shape (gaps-length Q x base (Q - 1) m plan shape ∙ sym places) sorted
       ∙ at-top Q ws i m (Q - 1) us at places members in
       ap (λ (l : List ℕ). power own rate base (suc m) l us) (plan-is Q own rate ws i base m)
-      ∙ top-drawn Q own rate base (suc m) m t plan us refl heavy
+      ∙ power-top own rate base (suc m) m t plan us refl heavy
       ∙ ap (λ (n : ℕ). itself own t + n)
       (gaps-power (rate t) x i base (Q - 1) m us (λ g h. within-power n g (omega arith)) (omega arith) at places sorted)
       ∙ sym (best-is Q own rate ws i m)
@@ -151,15 +150,3 @@ module _ (Q own : ℕ) (rate : ℕ → ℕ) (ws : List ℕ) (pos : 0 < Q) where
       → Sorted us
       → power own rate base v (planRun Q own rate ws i base v) us ≡ best Q own rate ws i v
   run-power i base v us = within-power v v (le-refl v) i base us
-
-  pub best-attained :
-      (i v : ℕ) (us : List ℕ)
-      → At ws i us
-      → length us ≡ v * Q
-      → Sorted us
-      → Split Q own rate us v (best Q own rate ws i v)
-  best-attained i v us at len sorted =
-      let plan = planRun Q own rate ws i 0 v in
-      let shape : Run Q 0 v plan = run-chosen Q own rate ws pos i 0 v in
-      subst (λ (n : ℕ). Split Q own rate us v n) (run-power i 0 v us at len sorted)
-      (run-split Q own rate 0 v plan us shape (run-length Q 0 v plan shape ∙ sym len) sorted)

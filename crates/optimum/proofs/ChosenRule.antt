@@ -1,6 +1,5 @@
 -- The plan function meets the tie rule as the model states it.
---     chosen-power    the chosen plan costs the run's best
---     full-above      no full plan of the run costs less, crossing ones too
+--     chosen-power, full-above    what `run-power` and `best-bound` say, over the loads as the model hands them on: all from the run's first
 --     chosen-least    so no plan without a crossing does
 --     chosen-taken    of those that cost as little, its top island's members lead
 --     chosen-rule     and every gap is settled by the same rule by itself
@@ -30,8 +29,8 @@ use Rattle.optimum.proofs.RunUncrossed.{run-uncrossed}
 use Rattle.optimum.proofs.UncrossedRun.{uncrossed-run}
 use Rattle.optimum.proofs.GapParts.{gap-lowest, gap-member}
 use Rattle.optimum.proofs.FullBound.{power-front, best-bound}
-use Rattle.optimum.proofs.RunPower.{charged}
-use Rattle.optimum.proofs.RunSplit.{gaps-heaviest, top-drawn}
+use Rattle.optimum.proofs.RunPower.{charged, power-top}
+use Rattle.optimum.proofs.RunSplit.{gaps-heaviest}
 use Rattle.optimum.proofs.ChosenRun.{chosen-within, gaps-lowest, gaps-member, gaps-run, plan-none, plan-is, run-chosen}
 use Rattle.optimum.proofs.ChosenPower.{run-power}
 use Rattle.optimum.proofs.ChosenLeads.{gaps-lead}
@@ -125,7 +124,7 @@ module _
       omega (
         arith,
         power-at i base (suc m) other (loads .us) (loads .at) len,
-        top-drawn Q own rate base (suc m) m t other (loads .us) refl heavy,
+        power-top own rate base (suc m) m t other (loads .us) refl heavy,
         best-is Q own rate ws i m,
       ) in
       subst (λ (l : List ℕ). Leads (members x 1 l) (members x 1 other)) (sym (plan-is Q own rate ws i base m))

@@ -34,18 +34,18 @@ module _ (Q : ℕ) (ws : List ℕ) (b : ℕ → ℕ → ℕ) where
     gaps-member r m = refl
 
     -- the runs in the gaps decide it
-    gaps-same :
+    walker-same :
         (inner′ : ℕ → ℕ → ℕ → List ℕ) (r m : ℕ)
         → ((j k g : ℕ) → g ≤ m → inner j k g ≡ inner′ j k g)
         → planGaps Q ws b inner ρ x i base r m ≡ planGaps Q ws b inner′ ρ x i base r m
     unfolding planGaps
-    gaps-same inner′ zero m same = ap (λ (l : List ℕ). l ++ (x ∷ [])) (same i base m (le-refl m))
-    gaps-same inner′ (suc r) m same =
+    walker-same inner′ zero m same = ap (λ (l : List ℕ). l ++ (x ∷ [])) (same i base m (le-refl m))
+    walker-same inner′ (suc r) m same =
         let g = chosen Q ws b ρ i r m in
         let low = planGaps Q ws b inner ρ x i base r (m - g) in
         ap (λ (l : List ℕ). low ++ (l ++ (x ∷ []))) (same (i + ((m - g) * Q + suc r)) (base + (m - g)) g (chosen-within ρ i r m))
         ∙ ap (λ (l : List ℕ). l ++ (inner′ (i + ((m - g) * Q + suc r)) (base + (m - g)) g ++ (x ∷ [])))
-        (gaps-same inner′ r (m - g) (λ j k h bound. same j k h (le-trans bound (sub-le m g))))
+        (walker-same inner′ r (m - g) (λ j k h bound. same j k h (le-trans bound (sub-le m g))))
 
     gaps-chosen :
         (r m : ℕ)
@@ -61,22 +61,22 @@ module _ (Q : ℕ) (ws : List ℕ) (b : ℕ → ℕ → ℕ) where
         (runs (i + ((m - g) * Q + suc r)) (base + (m - g)) g (chosen-within ρ i r m)) refl
 
 module _ (Q own : ℕ) (rate : ℕ → ℕ) (ws : List ℕ) where
-  within-same :
+  plan-within-same :
       (n k i base v : ℕ)
       → v ≤ n
       → v ≤ k
       → planWithin Q ws (best Q own rate ws) rate n i base v ≡ planWithin Q ws (best Q own rate ws) rate k i base v
   unfolding planWithin
-  within-same zero zero i base v h h′ = refl
-  within-same zero (suc k) i base zero h h′ = refl
-  within-same zero (suc k) i base (suc m) h h′ = absurd (not-suc-le-zero h)
-  within-same (suc n) zero i base zero h h′ = refl
-  within-same (suc n) zero i base (suc m) h h′ = absurd (not-suc-le-zero h′)
-  within-same (suc n) (suc k) i base zero h h′ = refl
-  within-same (suc n) (suc k) i base (suc m) h h′ =
+  plan-within-same zero zero i base v h h′ = refl
+  plan-within-same zero (suc k) i base zero h h′ = refl
+  plan-within-same zero (suc k) i base (suc m) h h′ = absurd (not-suc-le-zero h)
+  plan-within-same (suc n) zero i base zero h h′ = refl
+  plan-within-same (suc n) zero i base (suc m) h h′ = absurd (not-suc-le-zero h′)
+  plan-within-same (suc n) (suc k) i base zero h h′ = refl
+  plan-within-same (suc n) (suc k) i base (suc m) h h′ =
       let b = best Q own rate ws in
-      gaps-same Q ws b (planWithin Q ws b rate n) (rate (topLoad Q ws i m)) (base + suc m) i base (planWithin Q ws b rate k) (Q - 1) m
-      (λ j c g bound. within-same n k j c g (omega arith) (omega arith))
+      walker-same Q ws b (planWithin Q ws b rate n) (rate (topLoad Q ws i m)) (base + suc m) i base (planWithin Q ws b rate k) (Q - 1) m
+      (λ j c g bound. plan-within-same n k j c g (omega arith) (omega arith))
 
   pub plan-none : (i base : ℕ) → planRun Q own rate ws i base 0 ≡ []
   unfolding planRun planWithin
@@ -89,8 +89,8 @@ module _ (Q own : ℕ) (rate : ℕ → ℕ) (ws : List ℕ) where
   unfolding planRun planWithin
   plan-is i base m =
       let b = best Q own rate ws in
-      gaps-same Q ws b (planWithin Q ws b rate m) (rate (topLoad Q ws i m)) (base + suc m) i base (planRun Q own rate ws) (Q - 1) m
-      (λ j c g bound. within-same m g j c g bound (le-refl g))
+      walker-same Q ws b (planWithin Q ws b rate m) (rate (topLoad Q ws i m)) (base + suc m) i base (planRun Q own rate ws) (Q - 1) m
+      (λ j c g bound. plan-within-same m g j c g bound (le-refl g))
 
   run-within : 0 < Q → (n i base v : ℕ) → v ≤ n → Run Q base v (planRun Q own rate ws i base v)
   run-within pos zero i base zero bound = Run.empty refl (plan-none i base)

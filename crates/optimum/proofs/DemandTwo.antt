@@ -1,7 +1,7 @@
 -- Demand 2 over the model's placements: no placement has a lower total than the plan by the rule.
---     charge-rises      the table's charge never falls, up to the last frequency
 --     plan-ruled        the plan function meets the tie rule
---     plan-total        what is shown of it has the job's best as its total
+--     plan-uncrossed    it is full, numbered and without a crossing
+--     plan-placement, plan-total    what is shown of it is a placement, and has the job's best as its total
 --     ruled-one         two plans by the rule are equal
 --     ruled-uncrossed   a plan by the rule is full, numbered and without a crossing
 --     ruled-placement   what is shown of it is a placement
@@ -29,14 +29,14 @@ use Rattle.optimum.specs.OfJob.{bestOf, planOf}
 use Rattle.optimum.specs.Passed.{Passed, Ruled}
 use Rattle.optimum.proofs.Padding.{power-padded, padded-sorted, padded-within, padded-length}
 use Rattle.optimum.proofs.Placements.{placement-padded}
-use Rattle.optimum.proofs.Shown.{shown-power, shown-placement}
+use Rattle.optimum.proofs.ShownPlan.{shown-power, shown-placement}
 use Rattle.optimum.proofs.RunUncrossed.{run-uncrossed}
 use Rattle.optimum.proofs.RuleOne.{rule-one}
 use Rattle.optimum.proofs.ChosenRun.{run-chosen}
 use Rattle.optimum.proofs.ChosenRule.{chosen-power, full-above, chosen-rule}
 
 module _ (job : Job) (passed : Passed job) where
-  pub charge-rises : NeverFalls (charge (job .table)) (lastOf (job .table .frequencies))
+  charge-rises : NeverFalls (charge (job .table)) (lastOf (job .table .frequencies))
   charge-rises w w′ less slow =
       charge-never-falls (job .table) (passed .well .ranged) (passed .well .slopes) w w′ less
       (last-fast (job .table) w′ (passed .well .shaped .some-level) slow)
@@ -63,7 +63,7 @@ module _ (job : Job) (passed : Passed job) where
   ruled-one full other rule rule′ =
       rule-one (job .cores) (own job) (charge (job .table)) (padded job) some-core 0 0 (job .islands) full other rule rule′
 
-  plan-uncrossed : Uncrossed (job .cores) 0 (job .islands) (planOf job)
+  pub plan-uncrossed : Uncrossed (job .cores) 0 (job .islands) (planOf job)
   unfolding planOf
   plan-uncrossed =
       run-uncrossed (job .cores) 0 (job .islands) (planOf job)
@@ -75,6 +75,11 @@ module _ (job : Job) (passed : Passed job) where
       sym (shown-power job (planOf job) (plan-uncrossed .full) (passed .few) (own job) (charge (job .table)))
       ∙ chosen-power (job .cores) (own job) (charge (job .table)) (padded job) (lastOf (job .table .frequencies)) some-core charge-rises
       sorted within 0 0 (job .islands) fits
+
+  pub plan-placement : Placement job (shown job (planOf job))
+  plan-placement =
+      shown-placement job (planOf job) (plan-uncrossed .full) (passed .few) (passed .well .shaped .some-level) (passed .well .ordered)
+      (passed .slow)
 
   pub placement-above :
       (other : List ℕ)
@@ -96,9 +101,7 @@ module _ (job : Job) (passed : Passed job) where
     ruled-uncrossed = subst (λ (l : List ℕ). Uncrossed (job .cores) 0 (job .islands) l) ruled-plan plan-uncrossed
 
     pub ruled-placement : Placement job (shown job full)
-    ruled-placement =
-        shown-placement job full (ruled-uncrossed .full) (passed .few) (passed .well .shaped .some-level) (passed .well .ordered)
-        (passed .slow)
+    ruled-placement = subst (λ (l : List ℕ). Placement job (shown job l)) ruled-plan plan-placement
 
     pub ruled-total :
         total job (shown job full) ≡ bestOf job

@@ -1,4 +1,5 @@
 -- The rounded cost of a level beside its exact one, both times the product of all the table's frequencies.
+--     scale-positive    the product is not 0
 --     cost-above    the rounded cost is no smaller than the exact one
 --     cost-near     and it is larger by less than one
 --     cost-whole    where the exact cost is whole, they are equal
@@ -12,7 +13,8 @@ use lib.ListN.{length, getD}
 use Rattle.model.specs.Limits.{million}
 use Rattle.model.specs.Table.{Table, WellRanged}
 use Rattle.model.specs.Level.{cost}
-use Rattle.model.specs.Exact.{product, others, exactCost}
+use Rattle.model.specs.Job.{Job}
+use Rattle.model.specs.Exact.{product, others, exactCost, scale}
 use Rattle.model.proofs.Rounding.{cost-covers, cost-close, rounded-whole}
 use Rattle.model.proofs.Scaling.{others-product}
 
@@ -20,6 +22,12 @@ product-positive : (fs : List ℕ) → ((k : ℕ) → k < length fs → 0 < getD
 unfolding product
 product-positive [] h = omega arith
 product-positive (f ∷ fs) h = mul-pos (h 0 (omega arith)) (product-positive fs (λ k b. h (suc k) (omega arith)))
+
+-- every frequency is above 0, and so is their product
+pub scale-positive : (job : Job) → WellRanged (job .table) → 0 < scale job
+unfolding scale
+scale-positive job ranged =
+    product-positive (job .table .frequencies) (λ j b. omega (arith, ranged .frequency-range j b))
 
 -- a product above 0 has factors above 0
 factor-positive : (m n p : ℕ) → m * n ≡ p → 0 < p → 0 < m

@@ -1,6 +1,6 @@
 -- The total of a placement beside its exact power, both times the product of all the table's frequencies.
 --     exact-covered    the total is no smaller than the exact power
---     exact-close      and it is larger by less than the workload
+--     exact-close      and where there is any workload, it is larger by less than that
 --     exact-idle       where the workload is 0, they are equal
 --     exact-whole      and where all costs are whole
 -- Assumes nothing.

@@ -4,7 +4,7 @@
 --     paper-members       and these its islands, each from the highest position down
 --     paper-run           it has the shape of a run
 --     paper-uncrossed     so it has no crossing
---     paper-one           no other plan without a crossing has those of the example
+--     paper-one           no other plan without a crossing has these highest positions
 --     accepted-plans      the plan function gives the plan that 01 gives, in every accepted case of those to prove
 --     accepted-bests      and the recurrence gives the total that 01 gives
 --     crossing-plan       two islands that take turns cross

@@ -3,7 +3,7 @@
 --     first-least      no place has less
 --     first-before     every place before it has more
 --     first-one        a place of which these three are said is it
---     first-same, least-same    figures that are equal at the m + 1 places have one first place and one least figure
+--     least-same       figures that are equal at the m + 1 places have one least figure
 --     least-below      the least figure is at most that of every place
 -- Assumes nothing.
 use Prim.Native.Nat.{ℕ, zero, suc, _≤_, _<_, zero-le}
@@ -76,7 +76,7 @@ first-one m h g within below before =
           ]
     ]
 
-pub first-same : (m : ℕ) (h h′ : ℕ → ℕ) → ((k : ℕ) → k ≤ m → h k ≡ h′ k) → first m h ≡ first m h′
+first-same : (m : ℕ) (h h′ : ℕ → ℕ) → ((k : ℕ) → k ≤ m → h k ≡ h′ k) → first m h ≡ first m h′
 first-same m h h′ same =
     first-one m h (first m h′) (first-within m h′)
     (λ k b. omega (arith, same k b, same (first m h′) (first-within m h′), first-least m h′ k b))

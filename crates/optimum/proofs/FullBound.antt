@@ -1,6 +1,4 @@
 -- The lower bound over the model's full plans, crossing ones too.
---     full-fair       a full plan is a fair assignment to its islands
---     drawn-spread    what islands draw, as a sum over islands and a sum over positions
 --     power-front     loads behind the plan's positions draw nothing
 --     fair-bound      no fair assignment of a run's loads draws less than the run's best
 --     best-bound      no full plan of a run does
@@ -24,7 +22,7 @@ use Rattle.optimum.proofs.Places.{named-within, full-length, power-same
 use Rattle.optimum.proofs.BestSplit.{best-below}
 use Rattle.optimum.proofs.LowerBound.{fair-full, fair-named, lower-bound}
 
-pub full-fair : (Q base v : ℕ) (plan : List ℕ) → Full Q base v plan → Fair Q (islands base v) plan
+full-fair : (Q base v : ℕ) (plan : List ℕ) → Full Q base v plan → Fair Q (islands base v) plan
 full-fair Q base v plan full = record { once = λ z. at-most z; filled = λ z. exactly z }
   where
     outside : (z : ℕ) → ¬ (0 < count z plan) → count z (islands base v) ≡ 0 → count z plan ≡ count z (islands base v) * Q
@@ -56,7 +54,7 @@ full-fair Q base v plan full = record { once = λ z. at-most z; filled = λ z. e
               ]
         ]
 
-pub drawn-spread :
+drawn-spread :
     (own : ℕ) (rate : ℕ → ℕ) (zs plan us : List ℕ)
     → ((z : ℕ) → 0 < count z plan → count z zs ≡ 1)
     → over (λ z. drawn own rate (held z plan us)) zs

@@ -1,7 +1,7 @@
 -- Which gaps a list of gaps and members has.
 --     gap-lowest    in one gap and the member behind it: this gap alone
 --     gap-member    in a lower part, a gap and the member behind it: this gap, and those of the lower part
---     Start, end-some    a gap starts at the first place or behind a member; an end of such a list has a member or is empty
+--     end-some      an end of a list that ends with a member has a member, or is empty
 -- Assumes nothing.
 use Prim.Native.Nat.{ℕ, _<_}
 use mathlib.Core.Path.{_≡_, refl, sym, ap, subst, _∙_}

@@ -2,7 +2,6 @@
 --     without           a list of islands, without one of them
 --     count-without-same, count-without-other, length-without    how often islands stand in it, and how long it is
 --     over-without      a sum over the list, by one island and the rest
---     slide             the stretch moves down by one position, and a load of the least weight from its first position to its last
 --     gather            all positions of the island, moved to the end
 -- Assumes nothing.
 use Prim.Native.Nat.{ℕ, _+_, _*_, _≤_, _<_, zero-le}
@@ -71,15 +70,15 @@ length-without x (y ∷ a) =
       | no n ↦ rw (without-other x y a n) (omega (arith, length-without x a, count-other y x a n))
     ]
 
-over-absent : (g : ℕ → ℕ) (x : ℕ) (zs : List ℕ) → count x zs ≡ 0 → over g (without x zs) ≡ over g zs
+over-without-absent : (g : ℕ → ℕ) (x : ℕ) (zs : List ℕ) → count x zs ≡ 0 → over g (without x zs) ≡ over g zs
 unfolding without over
-over-absent g x [] none = refl
-over-absent g x (y ∷ zs) none =
+over-without-absent g x [] none = refl
+over-without-absent g x (y ∷ zs) none =
     elim (ℕ-discrete y x) [
       | yes e ↦ absurd (omega (arith, count-same y x zs e))
       | no n ↦
           rw (without-other x y zs n)
-          (ap (λ (k : ℕ). g y + k) (over-absent g x zs (omega (arith, count-other y x zs n))))
+          (ap (λ (k : ℕ). g y + k) (over-without-absent g x zs (omega (arith, count-other y x zs n))))
     ]
 
 pub over-without : (g : ℕ → ℕ) (x : ℕ) (zs : List ℕ) → count x zs ≡ 1 → over g zs ≡ g x + over g (without x zs)
@@ -89,7 +88,7 @@ over-without g x (y ∷ zs) one =
     elim (ℕ-discrete y x) [
       | yes e ↦
           rw (without-same x y zs e)
-          (omega (arith, ap g e, over-absent g x zs (omega (arith, count-same y x zs e))))
+          (omega (arith, ap g e, over-without-absent g x zs (omega (arith, count-same y x zs e))))
       | no n ↦
           rw (without-other x y zs n)
           (omega (arith, over-without g x zs (omega (arith, count-other y x zs n))))

@@ -9,7 +9,6 @@ use native.Mathlib.Nat.{add-mul}
 use native.Mathlib.Decide.{ℕ-discrete, decLt}
 use native.Mathlib.Omega.{arith}
 use lib.ListN.{length, length-append}
-use Rattle.model.specs.Level.{lowest}
 use Rattle.model.specs.Plan.{count, highest}
 use Rattle.model.specs.TieRule.{Uncrossed}
 use Rattle.optimum.specs.Shape.{Run, Gaps}
@@ -130,20 +129,20 @@ module _ (Q : ℕ) (cores : 0 < Q) where
   mutual
     unfolding count
 
-    run-same :
+    run-fixed :
         (base v : ℕ) (a b : List ℕ)
         → Run Q base v a
         → Run Q base v b
         → ((z : ℕ) → base < z → z ≤ base + v → highest z a ≡ highest z b)
         → a ≡ b
-    run-same base v a b (Run.empty none ea) (Run.empty none′ eb) same = ea ∙ sym eb
-    run-same base v a b (Run.empty none ea) (Run.top r m size more gaps) same = absurd (omega arith)
-    run-same base v a b (Run.top r m size more gaps) (Run.empty none eb) same = absurd (omega arith)
-    run-same base v a b (Run.top r m size more gaps) (Run.top r′ m′ size′ more′ gaps′) same =
-        gaps-same (base + v) base r m r′ m′ a b gaps gaps′ (omega arith) (omega arith) (omega arith)
+    run-fixed base v a b (Run.empty none ea) (Run.empty none′ eb) same = ea ∙ sym eb
+    run-fixed base v a b (Run.empty none ea) (Run.top r m size more gaps) same = absurd (omega arith)
+    run-fixed base v a b (Run.top r m size more gaps) (Run.empty none eb) same = absurd (omega arith)
+    run-fixed base v a b (Run.top r m size more gaps) (Run.top r′ m′ size′ more′ gaps′) same =
+        gaps-fixed (base + v) base r m r′ m′ a b gaps gaps′ (omega arith) (omega arith) (omega arith)
         (λ z low high. same z low (omega arith))
 
-    gaps-same :
+    gaps-fixed :
         (x base r m r′ m′ : ℕ) (a b : List ℕ)
         → Gaps Q x base r m a
         → Gaps Q x base r′ m′ b
@@ -152,10 +151,10 @@ module _ (Q : ℕ) (cores : 0 < Q) where
         → base + m < x
         → ((z : ℕ) → base < z → z ≤ base + m → highest z a ≡ highest z b)
         → a ≡ b
-    gaps-same x base r m r′ m′ a b (Gaps.lowest gap none run ea) (Gaps.lowest gap′ none′ run′ eb) er em above same =
+    gaps-fixed x base r m r′ m′ a b (Gaps.lowest gap none run ea) (Gaps.lowest gap′ none′ run′ eb) er em above same =
         let run″ : Run Q base m gap′ = subst (λ (n : ℕ). Run Q base n gap′) (sym em) run′ in
         let gaps : gap ≡ gap′ =
-        run-same base m gap gap′ run run″
+        run-fixed base m gap gap′ run run″
         (λ z low high.
         omega (
           arith,
@@ -164,11 +163,11 @@ module _ (Q : ℕ) (cores : 0 < Q) where
           parts-below z x gap′ [] b eb (λ e. omega arith) refl,
         )) in
         ea ∙ ap (λ (c : List ℕ). c ++ (x ∷ [])) gaps ∙ sym eb
-    gaps-same x base r m r′ m′ a b (Gaps.lowest gap none run ea) (Gaps.member s′ l′ g′ low′ gap′ more′ parts′ lower′ run′ eb) er em
+    gaps-fixed x base r m r′ m′ a b (Gaps.lowest gap none run ea) (Gaps.member s′ l′ g′ low′ gap′ more′ parts′ lower′ run′ eb) er em
         above same = absurd (omega arith)
-    gaps-same x base r m r′ m′ a b (Gaps.member s l g low gap more parts lower run ea) (Gaps.lowest gap′ none′ run′ eb) er em above
+    gaps-fixed x base r m r′ m′ a b (Gaps.member s l g low gap more parts lower run ea) (Gaps.lowest gap′ none′ run′ eb) er em above
         same = absurd (omega arith)
-    gaps-same x base r m r′ m′ a b (Gaps.member s l g low gap more parts lower run ea)
+    gaps-fixed x base r m r′ m′ a b (Gaps.member s l g low gap more parts lower run ea)
         (Gaps.member s′ l′ g′ low′ gap′ more′ parts′ lower′ run′ eb) er em above same =
         let es : s′ ≡ s = omega arith in
         let lower″ : Gaps Q x base s l′ low′ = subst (λ (n : ℕ). Gaps Q x base n l′ low′) es lower′ in
@@ -183,7 +182,7 @@ module _ (Q : ℕ) (cores : 0 < Q) where
         let run″ : Run Q (base + l) g gap′ =
         subst (λ (n : ℕ). Run Q (base + n) g gap′) el (subst (λ (n : ℕ). Run Q (base + l′) n gap′) eg run′) in
         let lows : low ≡ low′ =
-        gaps-same x base s l s l′ low low′ lower lower″ refl (sym el) (omega arith)
+        gaps-fixed x base s l s l′ low low′ lower lower″ refl (sym el) (omega arith)
         (λ z bottom high.
         omega (
           arith,
@@ -192,7 +191,7 @@ module _ (Q : ℕ) (cores : 0 < Q) where
           parts-below z x low′ gap′ b eb (λ e. omega arith) (run-outside Q (base + l) g gap′ run″ z (inl high)),
         )) in
         let gaps : gap ≡ gap′ =
-        run-same (base + l) g gap gap′ run run″
+        run-fixed (base + l) g gap gap′ run run″
         (λ z bottom high.
         omega (
           arith,
@@ -214,4 +213,4 @@ pub uncrossed-same :
     → ((z : ℕ) → base < z → z ≤ base + v → highest z a ≡ highest z b)
     → a ≡ b
 uncrossed-same Q base v a b some un un′ same =
-    run-same Q some base v a b (uncrossed-run Q base v a some un) (uncrossed-run Q base v b some un′) same
+    run-fixed Q some base v a b (uncrossed-run Q base v a some un) (uncrossed-run Q base v b some un′) same

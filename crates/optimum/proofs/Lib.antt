@@ -29,6 +29,7 @@ pub mod RunPower
 pub mod Cuts
 pub mod RunSplit
 pub mod ChosenRun
+pub mod BestAttained
 pub mod ChosenPower
 pub mod Leading
 pub mod ChosenLeads
@@ -38,7 +39,7 @@ pub mod RuleOne
 -- from full plans to placements, from rounded costs to exact ones, and from there to answers
 pub mod Padding
 pub mod Placements
-pub mod Shown
+pub mod ShownPlan
 pub mod DemandTwo
 pub mod ExactCost
 pub mod ExactPower

@@ -3,7 +3,9 @@
 --     append-inner    four lists, one behind the other, the last by itself
 --     cut-twice       one list, cut at two places: the one cut stands within a part of the other
 --     cut-last        the same where the second part of the one is a single entry
+--     no-entries      a list of length 0
 --     cut-at, cut-end    as many loads as positions, cut where the positions are
+--     cut-size-end, cut-size-three    a list, cut by the sizes of its parts, the last a single entry
 --     end-one         lists that are equal with one more entry behind each
 --     last-append     the last entry of two lists, one behind the other
 -- Assumes nothing.
@@ -13,8 +15,8 @@ use mathlib.Core.Logic.{_⊎_, inl, inr}
 use mathlib.Core.List.{List, [], _∷_, _++_, nil≢cons, head-eq-of-cons-eq, tail-eq-of-cons-eq, append-assoc}
 use native.Mathlib.Nat.{not-suc-le-zero, suc-ne-zero, suc-inj}
 use native.Mathlib.Omega.{arith}
-use lib.ListN.{length, getD, length-append}
-use lib.Seq.{getD-append-add}
+use lib.ListN.{length, getD, take, drop, length-append, length-drop, take-append-drop}
+use lib.Seq.{length-take-le, getD-append-add}
 use Rattle.model.specs.Refusals.{lastOf}
 
 pub cons-same : (x y : ℕ) (a b : List ℕ) → x ≡ y → a ≡ b → x ∷ a ≡ y ∷ b
@@ -70,19 +72,46 @@ cut-at (y ∷ a) b (w ∷ ws) len =
     let rest = cut-at a b ws (suc-inj len) in
     (w ∷ rest .0, rest .1, ap (λ (l : List ℕ). w ∷ l) (rest .2), ap suc (rest .3), rest .4)
 
+pub no-entries : (us : List ℕ) → length us ≡ 0 → us ≡ []
+no-entries [] none = refl
+no-entries (u ∷ us) none = absurd (suc-ne-zero _ none)
+
+single : (vs : List ℕ) → length vs ≡ 1 → (w : ℕ) × (vs ≡ w ∷ [])
+single [] e = absurd (suc-ne-zero 0 (sym e))
+single (w ∷ []) e = (w, refl)
+single (w ∷ u ∷ vs) e = absurd (suc-ne-zero _ (suc-inj e))
+
 pub cut-end :
     (a : List ℕ) (x : ℕ) (ws : List ℕ)
     → length (a ++ (x ∷ [])) ≡ length ws
     → (us : List ℕ) × (w : ℕ) × (ws ≡ us ++ (w ∷ [])) × (length a ≡ length us)
 cut-end a x ws len =
     let parts = cut-at a (x ∷ []) ws len in
+    let one = single (parts .1) (sym (parts .4)) in
+    (parts .0, one .0, parts .2 ∙ ap (λ (l : List ℕ). parts .0 ++ l) (one .1), parts .3)
+
+cut-size :
+    (n k : ℕ) (ws : List ℕ)
+    → length ws ≡ n + k
+    → (us : List ℕ) × (vs : List ℕ) × (ws ≡ us ++ vs) × (length us ≡ n) × (length vs ≡ k)
+cut-size n k ws len =
+    (take n ws, drop n ws, sym (take-append-drop n ws), length-take-le n ws (omega arith), omega (arith, length-drop n ws))
+
+pub cut-size-end :
+    (n : ℕ) (ws : List ℕ) → length ws ≡ n + 1 → (us : List ℕ) × (w : ℕ) × (ws ≡ us ++ (w ∷ [])) × (length us ≡ n)
+cut-size-end n ws len =
+    let parts = cut-size n 1 ws len in
     let one = single (parts .1) (parts .4) in
     (parts .0, one .0, parts .2 ∙ ap (λ (l : List ℕ). parts .0 ++ l) (one .1), parts .3)
-  where
-    single : (vs : List ℕ) → 1 ≡ length vs → (w : ℕ) × (vs ≡ w ∷ [])
-    single [] e = absurd (suc-ne-zero 0 e)
-    single (w ∷ []) e = (w, refl)
-    single (w ∷ u ∷ vs) e = absurd (suc-ne-zero _ (suc-inj (sym e)))
+
+pub cut-size-three :
+    (n k : ℕ) (ws : List ℕ)
+    → length ws ≡ n + (k + 1)
+    → (us : List ℕ) × (vs : List ℕ) × (w : ℕ) × (ws ≡ us ++ (vs ++ (w ∷ []))) × (length us ≡ n) × (length vs ≡ k)
+cut-size-three n k ws len =
+    let first = cut-size n (k + 1) ws len in
+    let second = cut-size-end k (first .1) (first .4) in
+    (first .0, second .0, second .1, first .2 ∙ ap (λ (l : List ℕ). first .0 ++ l) (second .2), first .3, second .3)
 
 pub end-one : (a b : List ℕ) (x y : ℕ) → a ++ (x ∷ []) ≡ b ++ (y ∷ []) → (a ≡ b) × (x ≡ y)
 end-one [] [] x y same = (refl, head-eq-of-cons-eq same)

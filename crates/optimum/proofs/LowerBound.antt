@@ -18,7 +18,7 @@ use Rattle.optimum.specs.Loads.{AtLeast, AtMost, Sorted, NeverFalls}
 use Rattle.optimum.specs.Best.{itself}
 use Rattle.optimum.specs.Split.{Split}
 use Rattle.optimum.specs.Fair.{Fair, over}
-use Rattle.optimum.proofs.Counts.{count-same, count-other, count-append}
+use Rattle.optimum.proofs.Counts.{count-same, count-append, single-same, single-other}
 use Rattle.optimum.proofs.Held.{held-append, held-absent, heaviest-append}
 use Rattle.optimum.proofs.Lists.{cut-at, cut-end, last-append}
 use Rattle.optimum.proofs.Spread.{weighed, weighed-append}
@@ -54,8 +54,8 @@ reached Q (x ∷ rest) done y few full =
           elim (ℕ-discrete x z) [
             | yes e ↦
                 omega
-                (arith, few z, count-append z done (x ∷ []), count-same x z [] e, ap (λ (k : ℕ). count k done) e)
-            | no f ↦ omega (arith, few z, count-append z done (x ∷ []), count-other x z [] f)
+                (arith, few z, count-append z done (x ∷ []), single-same x z e, ap (λ (k : ℕ). count k done) e)
+            | no f ↦ omega (arith, few z, count-append z done (x ∷ []), single-other x z f)
           ])
           (ap (λ (l : List ℕ). count y l) (sym moved) ∙ full))
     ]
@@ -124,11 +124,11 @@ module _ (Q own : ℕ) (rate : ℕ → ℕ) (limit : ℕ) (pos : 0 < Q) (rises :
 
     x-count : count x stretch ≡ Q
     unfolding stretch count
-    x-count = omega (arith, count-append x before (x ∷ []), count-same x x [] refl)
+    x-count = omega (arith, count-append x before (x ∷ []), single-same x x refl)
 
     other-count : (z : ℕ) → ¬ (x ≡ z) → count z stretch ≡ count z before
     unfolding stretch count
-    other-count z n = omega (arith, count-append z before (x ∷ []), count-other x z [] n)
+    other-count z n = omega (arith, count-append z before (x ∷ []), single-other x z n)
 
     x-named : 0 < count x zs
     unfolding stretch

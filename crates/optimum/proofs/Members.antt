@@ -1,5 +1,4 @@
 -- The positions of an island, and the highest of them.
---     members-append              in two lists, one behind the other
 --     members-absent              an island that is counted 0 times has none
 --     members-length              an island has as many as it is counted
 --     members-first               of a list, cut at its first member
@@ -10,7 +9,7 @@
 --     highest-end                 where it stands last
 --     highest-length              no position is higher than the list is long
 --     highest-some                an island that is counted has a highest position
---     parts-below, parts-behind   in a lower part, a gap and the member behind it: of an island below, and of one in the gap
+--     parts-below, parts-behind   the highest position in a lower part, a gap and the member behind it: of an island below, and of one in the gap
 -- Assumes nothing.
 use Prim.Native.Nat.{ℕ, suc, _+_, _≤_, _<_, zero-le}
 use mathlib.Core.Path.{_≡_, refl, sym, ap, _∙_}
@@ -24,7 +23,7 @@ use lib.Dec.{eqb}
 use lib.ListN.{length, getD, length-append, List·getD-append}
 use Rattle.model.specs.Plan.{count, members, highest}
 use Rattle.optimum.proofs.Lists.{cons-same}
-use Rattle.optimum.proofs.Counts.{count-same, count-other, count-append, single-other}
+use Rattle.optimum.proofs.Counts.{count-same, count-other, count-append, single-other, single-same}
 
 members-same : (y z p : ℕ) (a : List ℕ) → y ≡ z → members z p (y ∷ a) ≡ members z (suc p) a ++ (p ∷ [])
 unfolding members
@@ -55,7 +54,7 @@ members-length z p (y ∷ a) =
           ap (λ (l : List ℕ). length l) (members-other y z p a n) ∙ members-length z (suc p) a ∙ sym (count-other y z a n)
     ]
 
-pub members-append : (z p : ℕ) (a b : List ℕ) → members z p (a ++ b) ≡ members z (p + length a) b ++ members z p a
+members-append : (z p : ℕ) (a b : List ℕ) → members z p (a ++ b) ≡ members z (p + length a) b ++ members z p a
 unfolding members
 members-append z p [] b = ap (λ (q : ℕ). members z q b) (omega arith) ∙ sym (append-nil (members z (p + 0) b))
 members-append z p (y ∷ a) b =
@@ -143,7 +142,7 @@ highest-length z (y ∷ a) =
 
 pub highest-end : (z : ℕ) (a : List ℕ) → highest z (a ++ (z ∷ [])) ≡ suc (length a)
 highest-end z a =
-    let some : 0 < count z (z ∷ []) = omega (arith, count-same z z [] refl) in
+    let some : 0 < count z (z ∷ []) = omega (arith, single-same z z refl) in
     omega (arith, highest-right z a (z ∷ []) some, highest-some z (z ∷ []) some, highest-length z (z ∷ []))
 
 -- a lower part, a gap and the member x behind it

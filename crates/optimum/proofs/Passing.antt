@@ -1,10 +1,10 @@
 -- What a number says of a job: the conditions that hold where it is 0, and the two that say that no placement exists.
---     conditions-hold    where nothing is refused, all hold
+--     conditions-hold, hold-conditions    nothing is refused exactly where all hold
 --     placement-exists   of a well-formed job a placement exists exactly where count and speed allow it
 --     count-or-speed     so it is refused by 6 or 8 exactly where none exists
 -- Assumes nothing.
 use Prim.Native.Nat.{ℕ, _*_, _≤_, _<_}
-use mathlib.Core.Path.{_≡_}
+use mathlib.Core.Path.{_≡_, refl}
 use mathlib.Core.Logic.{_⊎_, inl, inr, _↔_}
 use mathlib.Core.List.{List, [], _∷_, _++_}
 use native.Mathlib.Omega.{arith}
@@ -17,7 +17,7 @@ use Rattle.model.specs.Refusals.{Condition, Tried, RoomEnough, conditions, load
 use Rattle.optimum.specs.OfJob.{planOf}
 use Rattle.optimum.specs.Passed.{WellFormed, Passed}
 use Rattle.optimum.proofs.Placements.{placement-fits, placement-speed}
-use Rattle.optimum.proofs.DemandTwo.{plan-ruled, ruled-placement}
+use Rattle.optimum.proofs.DemandTwo.{plan-placement}
 
 abbrev AllHold : List Condition → Type 0
 AllHold [] = Unit {0}
@@ -57,6 +57,25 @@ module _ (job : Job) (planRoom levelRoom : ℕ) where
       } in
       (record { well = well; few = loads .0; slow = loads .1 .1 .0 }, loads .1 .1 .1 .0)
 
+  pub hold-conditions : Passed job → RoomEnough job planRoom levelRoom → Tried (conditions job planRoom levelRoom) 0
+  hold-conditions passed room =
+      inr (
+        passed .well .sizes,
+        inr (
+          passed .well .shaped,
+          inr (
+            passed .well .ranged,
+            inr (
+              passed .well .slopes,
+              inr (
+                passed .well .island-power,
+                inr (passed .few, inr (passed .well .ordered, inr (passed .slow, inr (room, refl)))),
+              ),
+            ),
+          ),
+        ),
+      )
+
 module _ (job : Job) where
   abbrev Few : Type 0
   Few = length (job .loads) ≤ job .islands * job .cores
@@ -68,28 +87,33 @@ module _ (job : Job) where
   placement-exists well = (
     λ both.
         let passed : Passed job = record { well = well; few = both .0; slow = both .1 } in
-        (shown job (planOf job), ruled-placement job passed (planOf job) (plan-ruled job passed)),
+        (shown job (planOf job), plan-placement job passed),
     λ found.
         (placement-fits job (found .0) (found .1), placement-speed job (found .0) (well .ranged) (found .1)),
   )
 
   -- with all others passed, the count decides and then the speed
   abbrev Decided : ℕ → Type 0
-  Decided n = ((¬ Few) × (n ≡ 6)) ⊎ (Few × (((¬ Slow) × (n ≡ 8)) ⊎ (Slow × (n ≡ 0))))
+  Decided n = ((¬ Few) × (n ≡ 6)) ⊎ (Few × (((¬ Slow) × (n ≡ 8)) ⊎ (Slow × (¬ ((n ≡ 6) ⊎ (n ≡ 8))))))
 
   decided :
       (planRoom levelRoom n : ℕ)
       → WellFormed job
-      → RoomEnough job planRoom levelRoom
       → Tried (conditions job planRoom levelRoom) n
       → Decided n
-  decided planRoom levelRoom n well room tried =
+  decided planRoom levelRoom n well tried =
       by-count
       (past (well .island-power) (past (well .slopes) (past (well .ranged) (past (well .shaped) (past (well .sizes) tried)))))
     where
+      by-room : Tried (roomConditions job planRoom levelRoom) n → ¬ ((n ≡ 6) ⊎ (n ≡ 8))
+      by-room (inl short) (inl e) = omega (arith, short .1)
+      by-room (inl short) (inr e) = omega (arith, short .1)
+      by-room (inr enough) (inl e) = omega (arith, enough .1)
+      by-room (inr enough) (inr e) = omega (arith, enough .1)
+
       by-speed : Few → Tried (drop 2 (loadConditions job) ++ roomConditions job planRoom levelRoom) n → Decided n
       by-speed few (inl fast) = inr (few, inl fast)
-      by-speed few (inr slow) = inr (few, inr (slow .0, past room (slow .1)))
+      by-speed few (inr slow) = inr (few, inr (slow .0, by-room (slow .1)))
 
       by-count : Tried (loadConditions job ++ roomConditions job planRoom levelRoom) n → Decided n
       by-count (inl many) = inl many
@@ -98,18 +122,14 @@ module _ (job : Job) where
   pub count-or-speed :
       (planRoom levelRoom n : ℕ)
       → WellFormed job
-      → RoomEnough job planRoom levelRoom
       → Tried (conditions job planRoom levelRoom) n
       → ((n ≡ 6) ⊎ (n ≡ 8)) ↔ (¬ ((plan : List ℕ) × Placement job plan))
-  count-or-speed planRoom levelRoom n well room tried =
-      elim (decided planRoom levelRoom n well room tried) [
+  count-or-speed planRoom levelRoom n well tried =
+      elim (decided planRoom levelRoom n well tried) [
         | inl many ↦ (λ refused found. many .0 (placement-exists well .1 found .0), λ none. inl (many .1))
         | inr few ↦
             elim (few .1) [
               | inl fast ↦ (λ refused found. fast .0 (placement-exists well .1 found .1), λ none. inr (fast .1))
-              | inr slow ↦ (
-                λ refused found. elim refused [ inl e ↦ absurd (omega arith) | inr e ↦ absurd (omega arith) ],
-                λ none. absurd (none (placement-exists well .0 (few .0, slow .0))),
-              )
+              | inr slow ↦ (λ refused found. slow .1 refused, λ none. absurd (none (placement-exists well .0 (few .0, slow .0))))
             ]
       ]

@@ -125,18 +125,18 @@ module _ (job : Job) (plan : List ℕ) (placed : Placement job plan) where
   )
 
 -- an island's heaviest load is at least each load on it
-heaviest-covers :
+held-covers :
     (a ws : List ℕ) (j : ℕ)
     → j < length a
     → j < length ws
     → getD ws j 0 ≤ heaviest (held (getD a j 0) a ws)
 unfolding held heaviest
-heaviest-covers [] ws j placed within = absurd (not-suc-le-zero placed)
-heaviest-covers (y ∷ a) [] j placed within = absurd (not-suc-le-zero within)
-heaviest-covers (y ∷ a) (w ∷ ws) zero placed within = rw (held-same y y a w ws refl) (le-max-left w (heaviest (held y a ws)))
-heaviest-covers (y ∷ a) (w ∷ ws) (suc j) placed within =
+held-covers [] ws j placed within = absurd (not-suc-le-zero placed)
+held-covers (y ∷ a) [] j placed within = absurd (not-suc-le-zero within)
+held-covers (y ∷ a) (w ∷ ws) zero placed within = rw (held-same y y a w ws refl) (le-max-left w (heaviest (held y a ws)))
+held-covers (y ∷ a) (w ∷ ws) (suc j) placed within =
     let z = getD a j 0 in
-    let rest : getD ws j 0 ≤ heaviest (held z a ws) = heaviest-covers a ws j (le-of-suc-le-suc placed) (le-of-suc-le-suc within) in
+    let rest : getD ws j 0 ≤ heaviest (held z a ws) = held-covers a ws j (le-of-suc-le-suc placed) (le-of-suc-le-suc within) in
     elim (ℕ-discrete y z) [
       | yes e ↦ rw (held-same y z a w ws e) (le-trans rest (le-max-right w (heaviest (held z a ws))))
       | no n ↦ rw (held-other y z a w ws n) rest
@@ -160,7 +160,7 @@ placement-speed job plan ranged placed =
       | yes some ↦
           let there : j < length (job .loads) = last-there (job .loads) some in
           let covered : lastOf (job .loads) ≤ heaviest (held z plan (job .loads)) =
-          heaviest-covers plan (job .loads) j (omega (arith, placed .one-a-load)) there in
+          held-covers plan (job .loads) j (omega (arith, placed .one-a-load)) there in
           let fast : FastEnough (job .table) (heaviest (held z plan (job .loads))) =
           placed .fast z (lt-ltb 0 (heaviest (held z plan (job .loads))) (omega arith)) in
           omega (

@@ -1,9 +1,8 @@
 -- Counting over a plan whose entries are all islands of one range.
 --     Named              every entry is one of the islands base + 1 to base + v
---     within-else        what is counted, and would not be outside base + 1 to base + v, is inside
+--     within-else        an island that is counted lies in a range, if one outside of it would be counted 0 times
 --     islands-within     an island that stands in `islands` is one of the range
 --     named-within       an island that is counted in such a plan is one of the range
---     named-once         so it stands in `islands` once
 --     named-counted      a plan that counts no island but those of the range is such a plan
 --     over-level         the sum of the same figure for every island
 --     counts-length      the counts of all islands, added up, are the places

@@ -36,18 +36,18 @@ module _ (Q : ℕ) (ws : List ℕ) (b b′ : ℕ → ℕ → ℕ) (ρ i : ℕ) w
       omega (arith, same (i + ((m - g) * Q + suc r)) g h)))
 
 module _ (Q own : ℕ) (rate : ℕ → ℕ) (ws : List ℕ) where
-  within-same : (n k i v : ℕ) → v ≤ n → v ≤ k → bestWithin Q own rate ws n i v ≡ bestWithin Q own rate ws k i v
+  best-within-same : (n k i v : ℕ) → v ≤ n → v ≤ k → bestWithin Q own rate ws n i v ≡ bestWithin Q own rate ws k i v
   unfolding bestWithin
-  within-same zero zero i v h h′ = refl
-  within-same zero (suc k) i zero h h′ = refl
-  within-same zero (suc k) i (suc m) h h′ = absurd (not-suc-le-zero h)
-  within-same (suc n) zero i zero h h′ = refl
-  within-same (suc n) zero i (suc m) h h′ = absurd (not-suc-le-zero h′)
-  within-same (suc n) (suc k) i zero h h′ = refl
-  within-same (suc n) (suc k) i (suc m) h h′ =
+  best-within-same zero zero i v h h′ = refl
+  best-within-same zero (suc k) i zero h h′ = refl
+  best-within-same zero (suc k) i (suc m) h h′ = absurd (not-suc-le-zero h)
+  best-within-same (suc n) zero i zero h h′ = refl
+  best-within-same (suc n) zero i (suc m) h h′ = absurd (not-suc-le-zero h′)
+  best-within-same (suc n) (suc k) i zero h h′ = refl
+  best-within-same (suc n) (suc k) i (suc m) h h′ =
       ap (λ (c : ℕ). itself own (topLoad Q ws i m) + c)
       (fill-same Q ws (bestWithin Q own rate ws n) (bestWithin Q own rate ws k) (rate (topLoad Q ws i m)) i (Q - 1) m
-      (λ j g b. within-same n k j g (omega arith) (omega arith)))
+      (λ j g b. best-within-same n k j g (omega arith) (omega arith)))
 
   pub best-none : (i : ℕ) → best Q own rate ws i 0 ≡ 0
   unfolding best bestWithin
@@ -61,4 +61,4 @@ module _ (Q own : ℕ) (rate : ℕ → ℕ) (ws : List ℕ) where
   best-is i m =
       ap (λ (c : ℕ). itself own (topLoad Q ws i m) + c)
       (fill-same Q ws (bestWithin Q own rate ws m) (best Q own rate ws) (rate (topLoad Q ws i m)) i (Q - 1) m
-      (λ j g b. within-same m g j g b (le-refl g)))
+      (λ j g b. best-within-same m g j g b (le-refl g)))

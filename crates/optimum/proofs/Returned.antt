@@ -1,6 +1,5 @@
--- Demands 2 and 3 of what the caller reads: the returned plan and the reported total. From the answer nothing is taken but that the
--- total is the plan's and that the plan is by the rule.
---     placed-plan, returned-least, returned-uncrossed    demand 2
+-- Demands 2 and 3 of what the caller reads: the returned plan and the reported total. From the answer nothing is taken but its plan
+-- bytes, that the plan is by the rule, and that the total is the plan's.
 --     returned-demand-2, returned-demand-3    the two demands
 -- Assumes nothing.
 use Prim.Native.Nat.{ℕ, _*_, _≤_}
@@ -18,6 +17,7 @@ use Rattle.optimum.specs.Passed.{Passed, Ruled, returned}
 use Rattle.optimum.specs.Demands.{Demand2, Demand3}
 use Rattle.optimum.proofs.DemandTwo.{ruled-one, ruled-uncrossed, ruled-placement, ruled-least}
 use Rattle.optimum.proofs.ExactPower.{exact-covered, exact-close, exact-idle}
+use Rattle.optimum.proofs.ExactCost.{scale-positive}
 use Rattle.optimum.proofs.DemandThree.{within-workload, whole-least}
 use Rattle.optimum.proofs.Answering.{answer-passed, answer-full, answer-ruled, returned-plan, returned-total}
 
@@ -82,6 +82,7 @@ module _
   unfolding plan
   returned-demand-3 =
       record {
+        scaled = scale-positive job ranged;
         within = λ other placed. within-workload job ranged plan other placed-plan placed (below other placed);
         covered = le-trans (exact-covered job ranged plan placed-plan) (le-of-eq (sym scaled));
         close = λ some. lt-of-le-of-lt (le-of-eq scaled) (exact-close job ranged plan placed-plan some);

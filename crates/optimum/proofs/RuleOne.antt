@@ -23,13 +23,13 @@ behind-nothing x b (y ∷ rest) e whole none =
     absurd (omega (arith, end-some x b (y ∷ rest) (inr (e, whole)) (omega arith)))
 
 -- lists with the same members are cut at the same place by the first of them
-first-same :
+front-same :
     (x p : ℕ) (c c′ d d′ : List ℕ)
     → count x c ≡ 0
     → count x c′ ≡ 0
     → members x p (c ++ (x ∷ d)) ≡ members x p (c′ ++ (x ∷ d′))
     → (length c ≡ length c′) × (members x (suc (p + length c)) d ≡ members x (suc (p + length c)) d′)
-first-same x p c c′ d d′ free free′ same =
+front-same x p c c′ d d′ free free′ same =
     let ends =
     end-one
     (members x (suc (p + length c)) d)
@@ -55,7 +55,7 @@ module _ (x : ℕ) (plan other : List ℕ)
     (last′ : (c : List ℕ) × (other ≡ c ++ (x ∷ [])))
     (gaps : (b c c′ d d′ : List ℕ) → Gap x plan b c d → Gap x other b c′ d′ → length c ≡ length c′ → c ≡ c′) where
   -- b is read in both of them, rest and rest′ are not, and r members are left
-  walk :
+  walk-on :
       (r p : ℕ) (b rest rest′ : List ℕ)
       → plan ≡ b ++ rest
       → other ≡ b ++ rest′
@@ -64,13 +64,13 @@ module _ (x : ℕ) (plan other : List ℕ)
       → count x rest ≡ r
       → count x rest′ ≡ r
       → rest ≡ rest′
-  walk zero p b rest rest′ ep eo start same none none′ =
+  walk-on zero p b rest rest′ ep eo start same none none′ =
       behind-nothing x b rest (last .0) (sym ep ∙ last .1) none
       ∙ sym (behind-nothing x b rest′ (last′ .0) (sym eo ∙ last′ .1) none′)
-  walk (suc r) p b rest rest′ ep eo start same some some′ =
+  walk-on (suc r) p b rest rest′ ep eo start same some some′ =
       let (c, d, whole, free) = count-first x rest (omega arith) in
       let (c′, d′, whole′, free′) = count-first x rest′ (omega arith) in
-      let next = first-same x p c c′ d d′ free free′ (sym (ap (members x p) whole) ∙ same ∙ ap (members x p) whole′) in
+      let next = front-same x p c c′ d d′ free free′ (sym (ap (members x p) whole) ∙ same ∙ ap (members x p) whole′) in
       let here : plan ≡ b ++ (c ++ (x ∷ d)) = ep ∙ ap (λ (l : List ℕ). b ++ l) whole in
       let here′ : other ≡ b ++ (c′ ++ (x ∷ d′)) = eo ∙ ap (λ (l : List ℕ). b ++ l) whole′ in
       let gap : c ≡ c′ =
@@ -79,7 +79,7 @@ module _ (x : ℕ) (plan other : List ℕ)
       (record { whole = here′; free = free′; start = start })
       (next .0) in
       let behind : d ≡ d′ =
-      walk r (suc (p + length c)) (b ++ (c ++ (x ∷ []))) d d′
+      walk-on r (suc (p + length c)) (b ++ (c ++ (x ∷ []))) d d′
       (here ∙ cut x b c d)
       (here′ ∙ ap (λ (l : List ℕ). b ++ (l ++ (x ∷ d′))) (sym gap) ∙ cut x b c d′)
       (inr (b ++ c, sym (append-assoc b c (x ∷ []))))
@@ -104,7 +104,7 @@ rule-one Q own rate ws pos before base v plan other (ByRule.settled some taken g
     let one′ = taken′ .least .uncrossed in
     let full : count x plan ≡ Q = one .full .filled x (omega arith) (omega arith) in
     let full′ : count x other ≡ Q = one′ .full .filled x (omega arith) (omega arith) in
-    walk x plan other
+    walk-on x plan other
     (top-last Q base v plan pos some one)
     (top-last Q base v other pos some one′)
     (λ b c c′ d d′ gap gap′ same. rule-one Q own rate ws pos _ _ _ c c′ (gaps b c d gap)

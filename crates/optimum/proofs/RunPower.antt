@@ -1,6 +1,4 @@
 -- What a run-shaped plan draws, part by part.
---     power-range     over two ranges of islands, one above the other
---     power-held      islands that hold the same loads draw the same
 --     charged         what the members of an island are charged, and what the islands in the gaps below them draw
 --     charged-parts   that of a lower part, a gap and the member behind it
 --     charged-lowest  that of the lowest gap and the member behind it
@@ -9,13 +7,13 @@
 use Prim.Native.Nat.{ℕ, zero, suc, _+_, _*_, _≤_, _<_}
 use mathlib.Core.Path.{_≡_, refl, sym, ap, _∙_}
 use mathlib.Core.List.{List, [], _∷_, _++_, append-nil}
-use native.Mathlib.Nat.{add-zero, zero-add, suc-add, add-suc}
+use native.Mathlib.Nat.{add-zero, zero-add, suc-add}
 use native.Mathlib.Omega.{arith}
 use lib.ListN.{length}
 use Rattle.model.specs.Plan.{count}
 use Rattle.model.specs.Power.{each, held, heaviest, sum, drawn, power}
 use Rattle.optimum.specs.Best.{itself}
-use Rattle.optimum.proofs.Counts.{count-other}
+use Rattle.optimum.proofs.Counts.{single-other}
 use Rattle.optimum.proofs.Held.{held-same, held-append, held-absent, sum-append, drawn-is}
 use Rattle.optimum.proofs.Places.{power-same}
 
@@ -80,7 +78,7 @@ module _ (own : ℕ) (rate : ℕ → ℕ) where
       parts z
       ∙ ap (λ (k : List ℕ). held z low us ++ (k ++ held z (x ∷ []) (w ∷ []))) (held-absent z gap vs (gap-free z b t))
       ∙ ap (λ (k : List ℕ). held z low us ++ k)
-      (held-absent z (x ∷ []) (w ∷ []) (count-other x z [] (λ e. omega arith)))
+      (held-absent z (x ∷ []) (w ∷ []) (single-other x z (λ e. omega arith)))
       ∙ append-nil (held z low us)) in
       let upper : power own rate (base + l) g plan loads ≡ power own rate (base + l) g gap vs =
       power-held (base + l) g plan loads gap vs
@@ -88,23 +86,26 @@ module _ (own : ℕ) (rate : ℕ → ℕ) where
       parts z
       ∙ ap (λ (k : List ℕ). k ++ (held z gap vs ++ held z (x ∷ []) (w ∷ []))) (held-absent z low us (low-free z b (omega arith)))
       ∙ ap (λ (k : List ℕ). held z gap vs ++ k)
-      (held-absent z (x ∷ []) (w ∷ []) (count-other x z [] (λ e. omega arith)))
+      (held-absent z (x ∷ []) (w ∷ []) (single-other x z (λ e. omega arith)))
       ∙ append-nil (held z gap vs)) in
       omega (arith, ap (λ (k : ℕ). ρ * k) members, power-range base l g plan loads)
 
+  -- the top island of m + 1 has the number base + v
   pub power-top :
-      (base m t : ℕ) (plan us : List ℕ)
-      → heaviest (held (base + suc m) plan us) ≡ t
-      → power own rate base (suc m) plan us ≡ itself own t + charged (rate t) (base + suc m) base m plan us
+      (base v m t : ℕ) (plan us : List ℕ)
+      → v ≡ suc m
+      → heaviest (held (base + v) plan us) ≡ t
+      → power own rate base v plan us ≡ itself own t + charged (rate t) (base + v) base m plan us
   unfolding charged power each sum
-  power-top base m t plan us heavy =
-      let x = base + suc m in
+  power-top base v m t plan us more heavy =
+      let x = base + v in
       let f : ℕ → ℕ = λ z. drawn own rate (held z plan us) in
-      let one : suc m ≡ m + 1 = omega arith in
-      let ranges : power own rate base (suc m) plan us ≡ power own rate base m plan us + (f (suc (base + m)) + 0) =
+      let one : v ≡ m + 1 = omega arith in
+      let highest : suc (base + m) ≡ x = omega arith in
+      let ranges : power own rate base v plan us ≡ power own rate base m plan us + (f (suc (base + m)) + 0) =
       ap (λ (n : ℕ). power own rate base n plan us) one ∙ power-range base m 1 plan us in
       let top : f (suc (base + m)) ≡ itself own t + rate t * sum (held x plan us) =
-      ap f (sym (add-suc base m))
+      ap f highest
       ∙ drawn-is own rate (held x plan us)
       ∙ ap (λ (n : ℕ). itself own n + rate n * sum (held x plan us)) heavy in
       omega arith

@@ -1,22 +1,20 @@
 -- A run-shaped plan, read as a split: its power is the cost.
 --     gaps-heaviest    the top island's heaviest load is the last
---     top-drawn     a run draws what its top island draws by itself, and what is charged
 --     run-split     a run of sorted loads is a split of them, at what it draws
 --     gaps-fill     the same of the lowest members of an island with the gaps below them
 -- Assumes nothing.
-use Prim.Native.Nat.{ℕ, suc, _+_, _<_}
-use mathlib.Core.Path.{_≡_, refl, sym, ap, _∙_, subst}
+use Prim.Native.Nat.{ℕ, _+_, _<_}
+use mathlib.Core.Path.{_≡_, sym, ap, _∙_, subst}
 use mathlib.Core.List.{List, [], _∷_, _++_}
-use native.Mathlib.Nat.{suc-ne-zero, zero-lt-suc}
+use native.Mathlib.Nat.{zero-lt-suc}
 use native.Mathlib.Omega.{arith}
 use lib.ListN.{length}
 use Rattle.model.specs.Power.{each, held, heaviest, sum, power}
 use Rattle.model.specs.Refusals.{lastOf}
 use Rattle.optimum.specs.Loads.{Sorted}
-use Rattle.optimum.specs.Best.{itself}
 use Rattle.optimum.specs.Shape.{Run, Gaps}
 use Rattle.optimum.specs.Split.{Split, Fill}
-use Rattle.optimum.proofs.Lists.{cut-end, last-append}
+use Rattle.optimum.proofs.Lists.{no-entries, cut-end, last-append}
 use Rattle.optimum.proofs.BestSplit.{at-start}
 use Rattle.optimum.proofs.Shapes.{gaps-end}
 use Rattle.optimum.proofs.Sortings.{top-heaviest}
@@ -24,10 +22,6 @@ use Rattle.optimum.proofs.RunPower.{charged, power-top}
 use Rattle.optimum.proofs.Cuts.{lowest-cut, member-cut}
 
 module _ (Q own : ℕ) (rate : ℕ → ℕ) where
-  empty-list : (us : List ℕ) → length us ≡ 0 → us ≡ []
-  empty-list [] none = refl
-  empty-list (u ∷ us) none = absurd (suc-ne-zero _ none)
-
   pub gaps-heaviest :
       (x base r m : ℕ) (plan us : List ℕ)
       → Gaps Q x base r m plan
@@ -42,17 +36,6 @@ module _ (Q own : ℕ) (rate : ℕ → ℕ) where
       ∙ top-heaviest x (end .0) (cut .0) (cut .1) (cut .3) (subst (λ (l : List ℕ). Sorted l) (cut .2) sorted)
       ∙ sym (ap (λ (l : List ℕ). lastOf l) (cut .2) ∙ last-append (cut .0) (cut .1 ∷ []) (zero-lt-suc 0))
 
-  -- the top island of m + 1 has the number base + v
-  pub top-drawn :
-      (base v m t : ℕ) (plan us : List ℕ)
-      → v ≡ suc m
-      → heaviest (held (base + v) plan us) ≡ t
-      → power own rate base v plan us ≡ itself own t + charged own rate (rate t) (base + v) base m plan us
-  top-drawn base v m t plan us more heavy =
-      ap (λ (n : ℕ). power own rate base n plan us) more
-      ∙ power-top own rate base m t plan us (ap (λ (n : ℕ). heaviest (held (base + n) plan us)) (sym more) ∙ heavy)
-      ∙ ap (λ (n : ℕ). itself own t + charged own rate (rate t) (base + n) base m plan us) (sym more)
-
   mutual
     unfolding power each sum
 
@@ -63,7 +46,7 @@ module _ (Q own : ℕ) (rate : ℕ → ℕ) where
         → Sorted us
         → Split Q own rate us v (power own rate base v plan us)
     run-split base v plan us (Run.empty none whole) len sorted =
-        let no-loads : us ≡ [] = empty-list us (sym len ∙ ap (λ (l : List ℕ). length l) whole) in
+        let no-loads : us ≡ [] = no-entries us (sym len ∙ ap (λ (l : List ℕ). length l) whole) in
         let draws : power own rate base v plan us ≡ 0 = ap (λ (n : ℕ). power own rate base n plan us) none in
         Split.empty no-loads none draws
     run-split base v plan us (Run.top r m members more gaps) len sorted =
@@ -71,7 +54,7 @@ module _ (Q own : ℕ) (rate : ℕ → ℕ) where
         let heavy : heaviest (held x plan us) ≡ lastOf us = gaps-heaviest x base r m plan us gaps len sorted in
         Split.top r m (charged own rate (rate (lastOf us)) x base m plan us) members more
         (gaps-fill (rate (lastOf us)) x base r m plan us gaps (omega arith) len sorted)
-        (top-drawn base v m (lastOf us) plan us more heavy)
+        (power-top own rate base v m (lastOf us) plan us more heavy)
 
     pub gaps-fill :
         (ρ x base r m : ℕ) (plan us : List ℕ)

@@ -3,7 +3,7 @@
 --     run-length, gaps-length      how many positions
 --     run-inside, run-outside      every island of a run holds Q positions, no other holds any
 --     gaps-top                     the top island holds its r + 1 members
---     gaps-inside, gaps-outside    every island in the gaps holds Q positions, no other holds any
+--     gaps-outside                 no island but the top one and those in the gaps holds any
 --     gaps-end                     the top island stands last
 --     run-full                     a run is a full plan of its islands
 -- Assumes nothing.

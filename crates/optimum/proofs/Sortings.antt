@@ -16,7 +16,7 @@ use lib.ListN.{length, length-append}
 use Rattle.model.specs.Plan.{count}
 use Rattle.model.specs.Power.{held, heaviest}
 use Rattle.optimum.specs.Loads.{AtLeast, AtMost, Sorted}
-use Rattle.optimum.proofs.Counts.{count-same, count-other, count-append}
+use Rattle.optimum.proofs.Counts.{count-other, count-append, single-same}
 use Rattle.optimum.proofs.Held.{held-same, held-other}
 
 least-append : (w : ℕ) (p q : List ℕ) → AtLeast w (p ++ q) → AtLeast w p × AtLeast w q
@@ -106,6 +106,6 @@ pub top-heaviest :
     → heaviest (held x (c ++ (x ∷ [])) (us ++ (w ∷ []))) ≡ w
 unfolding held heaviest count
 top-heaviest x c us w len sorted =
-    heaviest-later x c (x ∷ []) us (w ∷ []) len (le-of-eq refl) sorted (omega (arith, count-same x x [] refl))
+    heaviest-later x c (x ∷ []) us (w ∷ []) len (le-of-eq refl) sorted (omega (arith, single-same x x refl))
     ∙ ap (λ (l : List ℕ). heaviest l) (held-same x x [] w [] refl)
     ∙ max-zero w

@@ -1,6 +1,6 @@
 -- Entries that stand in a list in a given order, with others between them.
 --     Has                       such entries
---     has-later, has-rest       with one more entry in front of the list, and without the first of the entries
+--     has-rest                  without the first of the entries
 --     has-left, has-right       in the first and in the second of two lists
 --     has-join, has-cut         some in the one and the rest in the other, put together and taken apart
 --     has-end                   the last of them stands in a list, or is the entry behind it

@@ -2,7 +2,7 @@
 --     Untangled                         no list x y x y of two different islands stands in the plan
 --     untangled, no-crossing            the same as no crossing by four positions
 --     untangled-left, untangled-right   nor does one in a part
---     Apart, untangled-apart            nor in two parts that have no island in common
+--     Apart                             two parts that have no island in common
 --     untangled-member, untangled-lowest    nor with one more member behind its gap
 -- Assumes nothing.
 use Prim.Native.Nat.{ℕ, zero, suc, _<_}

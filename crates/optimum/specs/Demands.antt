@@ -20,15 +20,19 @@ pub record Demand2 (job : Job) (reported : ℕ) (plan : List ℕ) : Type 0 where
   pub equation : reported ≡ total job plan
   -- "No placement with at most the allowed sets per island has a lower total"
   pub least : (other : List ℕ) → Placement job other → reported ≤ total job other
-  -- "The returned plan has no crossing islands."
+  -- the plan over all V·Q positions, of which the caller sees the entries of its own loads
   pub full : List ℕ
   pub seen : plan ≡ shown job full
+  -- "The returned plan has no crossing islands." "The full islands hold exactly Q positions each and are numbered […] by their highest
+  -- position, lowest first."
   pub uncrossed : Uncrossed (job .cores) 0 (job .islands) full
   -- "among equals the tie rule names one"
   pub ruled : Ruled job full
   pub only : (other : List ℕ) → Ruled job other → full ≡ other
 
 pub record Demand3 (job : Job) (reported : ℕ) (plan : List ℕ) : Type 0 where
+  -- the product is not 0, so what holds of the multiplied figures holds of the figures
+  pub scaled : 0 < scale job
   -- "the plan's exact power exceeds no placement's (crossing ones too) by more than W pW"
   pub within : (other : List ℕ) → Placement job other → exact job plan ≤ exact job other + workload job * scale job
   -- "the reported total is never below the plan's exact power"

@@ -18,7 +18,6 @@ use Rattle.model.specs.Refusals.{Ordered, lastOf}
 use Rattle.model.proofs.Levels.{last-fast}
 use Rattle.optimum.proofs.Counts.{count-append}
 use Rattle.optimum.proofs.Held.{held-length}
-use Rattle.optimum.proofs.Spread.{islands}
 use Rattle.optimum.proofs.Places.{named-within, full-length}
 use Rattle.optimum.proofs.Sortings.{heaviest-at-most}
 use Rattle.optimum.proofs.Ordering.{ordered-most}
