@@ -24,7 +24,7 @@ use Rattle.optimum.specs.OfJob.{bestOf, planOf}
 use Rattle.optimum.specs.Passed.{Passed, Ruled, returned}
 use Rattle.optimum.specs.Demands.{SameAnswer}
 use Rattle.optimum.proofs.DemandTwo.{plan-ruled, plan-placement, plan-total, ruled-one, ruled-placement, ruled-least}
-use Rattle.optimum.proofs.Passing.{conditions-hold, hold-conditions}
+use Rattle.optimum.proofs.Passing.{tried-passed, passed-tried}
 
 module _ (job : Job) (plan₀ levels₀ : List ℕ) where
   accepted-once :
@@ -60,7 +60,7 @@ module _ (job : Job) (plan₀ levels₀ : List ℕ) where
         | no planned ↦
             let none : n ≡ 0 = omega arith in
             let passed : Passed job =
-            conditions-hold job (length plan₀) (length levels₀)
+            tried-passed job (length plan₀) (length levels₀)
             (subst (λ (k : ℕ). Tried (conditions job (length plan₀) (length levels₀)) k) none (one .tried)) .0 in
             let rest = accepted-once r r′ p l p′ l′ passed (one .accepted none) (other .accepted (sym number ∙ none)) in
             record { number = number; totals = rest .0; plans = rest .1; levels = rest .2 }
@@ -74,7 +74,7 @@ module _ (job : Job) (plan₀ levels₀ : List ℕ) where
       (levels job (shown job (planOf job)) ++ drop (job .islands) levels₀)
   answer-planned passed room =
       record {
-        tried = hold-conditions job (length plan₀) (length levels₀) passed room;
+        tried = passed-tried job (length plan₀) (length levels₀) passed room;
         refused = λ some. absurd (not-suc-le-zero some);
         accepted = λ none.
             record {
@@ -90,7 +90,7 @@ module _ (job : Job) (plan₀ levels₀ : List ℕ) where
 
   module _ (reported : ℕ) (planned leveled : List ℕ) (answer : Answered job plan₀ levels₀ 0 reported planned leveled) where
     pub answer-passed : Passed job
-    answer-passed = conditions-hold job (length plan₀) (length levels₀) (answer .tried) .0
+    answer-passed = tried-passed job (length plan₀) (length levels₀) (answer .tried) .0
 
     -- the plan, by the rule, of which the caller sees the entries of its own loads
     pub answer-full : List ℕ

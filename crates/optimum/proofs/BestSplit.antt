@@ -96,11 +96,11 @@ module _ (Q own : ℕ) (rate : ℕ → ℕ) (ws : List ℕ) where
         let load : loadAt Q ws i m (suc s) ≡ w =
         ap (λ (k : ℕ). getD ws k 0) (omega (arith, fill-length Q own rate f, split-length Q own rate t))
         ∙ at-member ws (i + length low) gap w (length gap) upper refl in
-        let row : fill Q ws b ρ i r m ≡ ρ * loadAt Q ws i m (suc s) + least m (gapCost Q ws b ρ i s m) =
+        let row : fill Q ws b ρ i r m ≡ ρ * loadAt Q ws i m (suc s) + least m (gapCost Q b (fill Q ws b ρ i s) i s m) =
         ap (λ (k : ℕ). fill Q ws b ρ i k m) z ∙ fill-member Q ws b ρ i s m in
         let inner : b (i + ((m - g) * Q + suc s)) g ≤ c =
         subst (λ (k : ℕ). b (i + k) g ≤ c) place (best-below t (i + length low) (at-front ws (i + length low) gap (w ∷ []) upper)) in
         let lower : fill Q ws b ρ i s (m - g) ≤ e =
         subst (λ (k : ℕ). fill Q ws b ρ i s k ≤ e) (sym below) (fill-below f i (at-front ws i low (gap ++ (w ∷ [])) here)) in
         omega
-        (arith, ap (λ (k : ℕ). ρ * k) load, least-below m (gapCost Q ws b ρ i s m) g (omega arith))
+        (arith, ap (λ (k : ℕ). ρ * k) load, least-below m (gapCost Q b (fill Q ws b ρ i s) i s m) g (omega arith))

@@ -88,7 +88,7 @@ module _ (Q own : ℕ) (rate : ℕ → ℕ) (ws : List ℕ) (pos : 0 < Q) where
       (parts : l + g ≡ m)
       (cheap : charged own rate ρ x base m plan us ≤ fillBest Q own rate ws ρ i (suc s) m) where
     cost : ℕ → ℕ
-    cost = gapCost Q ws (best Q own rate ws) ρ i s m
+    cost = gapCost Q (best Q own rate ws) (fillBest Q own rate ws ρ i s) i s m
 
     gap-below : best Q own rate ws (i + (l * Q + suc s)) g ≤ power own rate (base + l) g gap (cut .inner)
     gap-below =

@@ -1,5 +1,5 @@
 -- The plan function meets the tie rule as the model states it.
---     chosen-power, full-above    what `run-power` and `best-bound` say, over the loads as the model hands them on: all from the run's first
+--     chosen-power, full-above    `run-power` and `best-bound` over the loads as the model hands them on: all from the run's first
 --     chosen-least    so no plan without a crossing does
 --     chosen-taken    of those that cost as little, its top island's members lead
 --     chosen-rule     and every gap is settled by the same rule by itself
@@ -22,8 +22,8 @@ use Rattle.optimum.specs.Shape.{Run, Gaps}
 use Rattle.optimum.specs.Chosen.{planRun, bestGap, walk}
 use Rattle.optimum.proofs.Recurrence.{best-is}
 use Rattle.optimum.proofs.BestSplit.{at-top}
-use Rattle.optimum.proofs.Places.{full-length}
-use Rattle.optimum.proofs.Sortings.{sorted-front, sorted-back, most-front, most-back}
+use Rattle.optimum.proofs.NamedPlans.{full-length}
+use Rattle.optimum.proofs.SortedLoads.{sorted-front, sorted-back, most-front, most-back}
 use Rattle.optimum.proofs.Shapes.{run-length, gaps-length, gaps-end, gaps-top, run-outside}
 use Rattle.optimum.proofs.RunUncrossed.{run-uncrossed}
 use Rattle.optimum.proofs.UncrossedRun.{uncrossed-run}

@@ -9,7 +9,7 @@ use mathlib.Core.Path.{_≡_, refl, sym, ap, _∙_, subst}
 use mathlib.Core.List.{List, [], _∷_, _++_}
 use native.Mathlib.Nat.{le-refl, le-trans, not-suc-le-zero, sub-le, sub-add-cancel}
 use native.Mathlib.Omega.{arith}
-use Rattle.optimum.specs.Best.{topLoad, gapCost, best}
+use Rattle.optimum.specs.Best.{topLoad, fill, gapCost, best}
 use Rattle.optimum.specs.Shape.{Run, Gaps}
 use Rattle.optimum.specs.Chosen.{chosen, planGaps, planWithin, planRun, walk}
 use Rattle.optimum.proofs.First.{first-within}
@@ -17,7 +17,7 @@ use Rattle.optimum.proofs.First.{first-within}
 module _ (Q : ℕ) (ws : List ℕ) (b : ℕ → ℕ → ℕ) where
   pub chosen-within : (ρ i r m : ℕ) → chosen Q ws b ρ i r m ≤ m
   unfolding chosen
-  chosen-within ρ i r m = first-within m (gapCost Q ws b ρ i r m)
+  chosen-within ρ i r m = first-within m (gapCost Q b (fill Q ws b ρ i r) i r m)
 
   module _ (inner : ℕ → ℕ → ℕ → List ℕ) (ρ x i base : ℕ) where
     pub gaps-lowest : (m : ℕ) → planGaps Q ws b inner ρ x i base 0 m ≡ inner i base m ++ (x ∷ [])

@@ -3,7 +3,6 @@
 --     count-later                an island that is counted in the rest is counted
 --     count-append               in two lists, one behind the other
 --     count-none                 an island that stands at no place is counted 0 times
---     count-within               an island counted at least once stands at some place
 --     count-at                   the island that stands at a place is counted
 --     single-same, single-other  in a single entry
 --     count-first, count-last    the list, cut at its first or last place
@@ -46,17 +45,6 @@ pub count-none : (z : ℕ) (a : List ℕ) → ((j : ℕ) → j < length a → ¬
 unfolding count
 count-none z [] h = refl
 count-none z (y ∷ a) h = count-other y z a (h 0 (omega arith)) ∙ count-none z a (λ j b. h (suc j) (omega arith))
-
-pub count-within : (z : ℕ) (a : List ℕ) → 0 < count z a → (j : ℕ) × (j < length a) × (getD a j 0 ≡ z)
-unfolding count
-count-within z [] h = absurd (not-suc-le-zero h)
-count-within z (y ∷ a) h =
-    elim (ℕ-discrete y z) [
-      | yes e ↦ (0, omega arith, e)
-      | no n ↦
-          let rest = count-within z a (omega (arith, count-other y z a n)) in
-          (suc (rest .0), omega (arith, rest .1), rest .2)
-    ]
 
 pub count-first : (z : ℕ) (a : List ℕ) → 0 < count z a → (b : List ℕ) × (d : List ℕ) × (a ≡ b ++ (z ∷ d)) × (count z b ≡ 0)
 unfolding count

@@ -16,7 +16,7 @@ use Rattle.optimum.specs.Shape.{Run, Gaps}
 use Rattle.optimum.proofs.Lists.{cut-at, cut-end}
 use Rattle.optimum.proofs.BestSplit.{at-front, at-behind, at-member}
 use Rattle.optimum.proofs.Shapes.{run-length, gaps-length, run-outside, gaps-outside}
-use Rattle.optimum.proofs.Sortings.{sorted-front, sorted-back}
+use Rattle.optimum.proofs.SortedLoads.{sorted-front, sorted-back}
 use Rattle.optimum.proofs.RunPower.{charged, charged-parts, charged-lowest}
 
 module _ (Q own : ℕ) (rate : ℕ → ℕ) (ws : List ℕ) where

@@ -23,7 +23,7 @@ use Rattle.optimum.specs.Best.{itself}
 use Rattle.optimum.specs.Fair.{over}
 use Rattle.optimum.proofs.Held.{heaviest-nothing, drawn-is}
 use Rattle.optimum.proofs.Spread.{islands, each-over, over-sum, over-le, over-scaled}
-use Rattle.optimum.proofs.Places.{held-workload}
+use Rattle.optimum.proofs.NamedPlans.{held-workload}
 use Rattle.optimum.proofs.Placements.{placement-named}
 use Rattle.optimum.proofs.ExactCost.{cost-above, cost-near, cost-whole}
 

@@ -104,7 +104,7 @@ unfolding lowest levelOf roundedUp cost charge own padding padded shown itself f
 accepted-plans = refl
 
 pub accepted-bests : map (λ c. bestOf (c .job)) (accepted proved) ≡ map (λ c. c .reported) (accepted proved)
-unfolding lowest levelOf roundedUp cost charge own padding padded itself first least loadAt topLoad fill bestWithin best bestOf
+unfolding lowest levelOf roundedUp cost charge own padding padded itself first least loadAt topLoad fill gapCost bestWithin best bestOf
 accepted-bests = refl
 
 pub crossing-plan : Cross 1 2 (1 ∷ 2 ∷ 1 ∷ 2 ∷ [])

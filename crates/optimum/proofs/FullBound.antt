@@ -5,9 +5,9 @@
 -- Assumes nothing.
 use Prim.Native.Nat.{ℕ, _+_, _*_, _≤_, _<_}
 use mathlib.Core.Path.{_≡_, refl, sym, ap, _∙_}
+use mathlib.Core.Logic.{inl, inr}
 use mathlib.Core.List.{List, [], _++_, append-nil}
 use native.Mathlib.Nat.{one-mul, zero-mul, le-trans, le-of-eq}
-use native.Mathlib.Decide.{decLt}
 use native.Mathlib.Omega.{arith}
 use lib.ListN.{length}
 use Rattle.model.specs.Plan.{count, Full}
@@ -16,42 +16,31 @@ use Rattle.optimum.specs.Loads.{AtMost, Sorted, NeverFalls, At}
 use Rattle.optimum.specs.Best.{itself, best}
 use Rattle.optimum.specs.Fair.{Fair, over}
 use Rattle.optimum.proofs.Held.{held-append, drawn-is}
-use Rattle.optimum.proofs.Spread.{islands, weighed, each-over, islands-below, islands-once, islands-above}
+use Rattle.optimum.proofs.Spread.{islands, weighed, each-over, islands-once}
 use Rattle.optimum.proofs.Spread.{islands-length, over-same, over-sum, spread}
-use Rattle.optimum.proofs.Places.{named-within, full-length, power-same}
+use Rattle.optimum.proofs.NamedPlans.{in-or-out, islands-outside, named-outside, full-length, power-same}
 use Rattle.optimum.proofs.BestSplit.{best-below}
 use Rattle.optimum.proofs.LowerBound.{fair-full, fair-named, lower-bound}
 
 full-fair : (Q base v : ℕ) (plan : List ℕ) → Full Q base v plan → Fair Q (islands base v) plan
-full-fair Q base v plan full = record { once = λ z. at-most z; filled = λ z. exactly z }
+full-fair Q base v plan full = record { once = once; filled = filled }
   where
-    outside : (z : ℕ) → ¬ (0 < count z plan) → count z (islands base v) ≡ 0 → count z plan ≡ count z (islands base v) * Q
-    outside z none zero-times =
-        let times : count z (islands base v) * Q ≡ 0 = ap (λ (n : ℕ). n * Q) zero-times ∙ zero-mul Q in
-        omega arith
-
-    at-most : (z : ℕ) → count z (islands base v) ≤ 1
-    at-most z =
-        elim (decLt base z) [
-          | no low ↦ omega (arith, islands-below base v z (omega arith))
-          | yes low ↦
-              elim (decLt (base + v) z) [
-                | yes high ↦ omega (arith, islands-above base v z high)
-                | no high ↦ le-of-eq (islands-once base v z low (omega arith))
-              ]
+    once : (z : ℕ) → count z (islands base v) ≤ 1
+    once z =
+        elim (in-or-out base v z) [
+          | inl within ↦ le-of-eq (islands-once base v z (within .0) (within .1))
+          | inr out ↦ omega (arith, islands-outside base v z out)
         ]
 
-    exactly : (z : ℕ) → count z plan ≡ count z (islands base v) * Q
-    exactly z =
-        elim (decLt base z) [
-          | no low ↦ outside z (λ some. omega (arith, named-within base v plan (full .named) z some)) (islands-below base v z (omega arith))
-          | yes low ↦
-              elim (decLt (base + v) z) [
-                | yes high ↦ outside z (λ some. omega (arith, named-within base v plan (full .named) z some)) (islands-above base v z high)
-                | no high ↦
-                    full .filled z low (omega arith)
-                    ∙ sym (ap (λ (n : ℕ). n * Q) (islands-once base v z low (omega arith)) ∙ one-mul Q)
-              ]
+    filled : (z : ℕ) → count z plan ≡ count z (islands base v) * Q
+    filled z =
+        elim (in-or-out base v z) [
+          | inl within ↦
+              full .filled z (within .0) (within .1)
+              ∙ sym (ap (λ (n : ℕ). n * Q) (islands-once base v z (within .0) (within .1)) ∙ one-mul Q)
+          | inr out ↦
+              named-outside base v plan (full .named) z out
+              ∙ sym (ap (λ (n : ℕ). n * Q) (islands-outside base v z out) ∙ zero-mul Q)
         ]
 
 drawn-spread :

@@ -5,9 +5,9 @@ pub mod Lists
 pub mod Counts
 pub mod Held
 pub mod Spread
-pub mod Places
-pub mod Sortings
-pub mod Ordering
+pub mod NamedPlans
+pub mod SortedLoads
+pub mod OrderedLoads
 -- no fair assignment is cheaper than the best split
 pub mod First
 pub mod Recurrence

@@ -23,8 +23,8 @@ use Rattle.optimum.proofs.Held.{held-append, held-absent, heaviest-appe
 use Rattle.optimum.proofs.Lists.{cut-at, cut-end, last-append}
 use Rattle.optimum.proofs.Spread.{weighed, weighed-append}
 use Rattle.optimum.proofs.Splits.{block, insertion}
-use Rattle.optimum.proofs.Sortings.{sorted-front, sorted-back, sorted-taken-out, most-taken-out, heaviest-at-least}
-use Rattle.optimum.proofs.Sortings.{heaviest-at-most, heaviest-later, top-heaviest}
+use Rattle.optimum.proofs.SortedLoads.{sorted-front, sorted-back, sorted-taken-out, most-taken-out, heaviest-at-least}
+use Rattle.optimum.proofs.SortedLoads.{heaviest-at-most, heaviest-later, top-heaviest}
 use Rattle.optimum.proofs.Gather.{without, count-without-same, count-without-other, length-without, over-without, gather}
 
 -- the list up to the first place at which an island has Q positions: the island x, and what stands behind it

@@ -9,7 +9,7 @@
 --     highest-end                 where it stands last
 --     highest-length              no position is higher than the list is long
 --     highest-some                an island that is counted has a highest position
---     parts-below, parts-behind   the highest position in a lower part, a gap and the member behind it: of an island below, and of one in the gap
+--     parts-below, parts-behind   in a lower part, a gap and the member behind it: the highest position of an island below, of one in the gap
 -- Assumes nothing.
 use Prim.Native.Nat.{ℕ, suc, _+_, _≤_, _<_, zero-le}
 use mathlib.Core.Path.{_≡_, refl, sym, ap, _∙_}

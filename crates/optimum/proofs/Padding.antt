@@ -15,9 +15,9 @@ use Rattle.model.specs.Power.{held, heaviest, sum, active, drawn, power}
 use Rattle.model.specs.Refusals.{Ordered, lastOf}
 use Rattle.optimum.specs.Loads.{AtLeast, AtMost, Sorted}
 use Rattle.optimum.proofs.Held.{held-append, sum-append, heaviest-append, heaviest-nothing}
-use Rattle.optimum.proofs.Places.{power-same}
-use Rattle.optimum.proofs.Sortings.{heaviest-at-most}
-use Rattle.optimum.proofs.Ordering.{ordered-sorted, ordered-most}
+use Rattle.optimum.proofs.NamedPlans.{power-same}
+use Rattle.optimum.proofs.SortedLoads.{heaviest-at-most}
+use Rattle.optimum.proofs.OrderedLoads.{ordered-sorted, ordered-most}
 
 -- what an island draws is by the heaviest and the sum of its loads alone
 drawn-same :

@@ -1,5 +1,5 @@
 -- What a number says of a job: the conditions that hold where it is 0, and the two that say that no placement exists.
---     conditions-hold, hold-conditions    nothing is refused exactly where all hold
+--     tried-passed, passed-tried    nothing is refused exactly where all hold
 --     placement-exists   of a well-formed job a placement exists exactly where count and speed allow it
 --     count-or-speed     so it is refused by 6 or 8 exactly where none exists
 -- Assumes nothing.
@@ -38,8 +38,8 @@ past holds (inl refused) = absurd (refused .0 holds)
 past holds (inr passed) = passed .1
 
 module _ (job : Job) (planRoom levelRoom : ℕ) where
-  pub conditions-hold : Tried (conditions job planRoom levelRoom) 0 → Passed job × RoomEnough job planRoom levelRoom
-  conditions-hold tried =
+  pub tried-passed : Tried (conditions job planRoom levelRoom) 0 → Passed job × RoomEnough job planRoom levelRoom
+  tried-passed tried =
       let held =
       all-hold (conditions job planRoom levelRoom)
       (lit< tt, (lit< tt, (lit< tt, (lit< tt, (lit< tt, (lit< tt, (lit< tt, (lit< tt, (lit< tt, tt))))))))) tried in
@@ -57,8 +57,8 @@ module _ (job : Job) (planRoom levelRoom : ℕ) where
       } in
       (record { well = well; few = loads .0; slow = loads .1 .1 .0 }, loads .1 .1 .1 .0)
 
-  pub hold-conditions : Passed job → RoomEnough job planRoom levelRoom → Tried (conditions job planRoom levelRoom) 0
-  hold-conditions passed room =
+  pub passed-tried : Passed job → RoomEnough job planRoom levelRoom → Tried (conditions job planRoom levelRoom) 0
+  passed-tried passed room =
       inr (
         passed .well .sizes,
         inr (

@@ -22,8 +22,8 @@ use Rattle.optimum.specs.Fair.{over}
 use Rattle.optimum.proofs.Counts.{count-same, count-other, count-append}
 use Rattle.optimum.proofs.Held.{held-same, held-other, held-length}
 use Rattle.optimum.proofs.Spread.{islands, islands-once, islands-length, over-same, over-sum}
-use Rattle.optimum.proofs.Places.{Named, islands-within, named-within, named-counted, over-level, counts-length}
-use Rattle.optimum.proofs.Ordering.{ordered-last}
+use Rattle.optimum.proofs.NamedPlans.{Named, islands-within, named-within, named-counted, over-level, counts-length}
+use Rattle.optimum.proofs.OrderedLoads.{ordered-last}
 
 -- f z copies of each island z of a list
 unfoldable copies : (ℕ → ℕ) → List ℕ → List ℕ

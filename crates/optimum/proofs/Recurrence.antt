@@ -19,7 +19,7 @@ fill-lowest Q ws b ρ i m = refl
 
 pub fill-member :
     (Q : ℕ) (ws : List ℕ) (b : ℕ → ℕ → ℕ) (ρ i r m : ℕ)
-    → fill Q ws b ρ i (suc r) m ≡ ρ * loadAt Q ws i m (suc r) + least m (gapCost Q ws b ρ i r m)
+    → fill Q ws b ρ i (suc r) m ≡ ρ * loadAt Q ws i m (suc r) + least m (gapCost Q b (fill Q ws b ρ i r) i r m)
 unfolding fill gapCost
 fill-member Q ws b ρ i r m = refl
 
@@ -29,7 +29,7 @@ module _ (Q : ℕ) (ws : List ℕ) (b b′ : ℕ → ℕ → ℕ) (ρ i : ℕ) w
   fill-same zero m same = ap (λ (n : ℕ). ρ * loadAt Q ws i m 0 + n) (same i m (le-refl m))
   fill-same (suc r) m same =
       ap (λ (n : ℕ). ρ * loadAt Q ws i m (suc r) + n)
-      (least-same m (gapCost Q ws b ρ i r m) (gapCost Q ws b′ ρ i r m)
+      (least-same m (gapCost Q b (fill Q ws b ρ i r) i r m) (gapCost Q b′ (fill Q ws b′ ρ i r) i r m)
       (λ g h.
       let low : fill Q ws b ρ i r (m - g) ≡ fill Q ws b′ ρ i r (m - g) =
       fill-same r (m - g) (λ j k h′. same j k (le-trans h′ (sub-le m g))) in

@@ -12,9 +12,11 @@ use Rattle.model.specs.Power.{total}
 use Rattle.model.specs.Exact.{scale}
 use Rattle.model.specs.Placement.{Placement}
 use Rattle.model.specs.Plan.{shown}
+use Rattle.model.specs.Crossing.{NoCrossing}
 use Rattle.model.specs.Answer.{Answered}
 use Rattle.optimum.specs.Passed.{Passed, Ruled, returned}
 use Rattle.optimum.specs.Demands.{Demand2, Demand3}
+use Rattle.optimum.proofs.ShownPlan.{shown-no-crossing}
 use Rattle.optimum.proofs.DemandTwo.{ruled-one, ruled-uncrossed, ruled-placement, ruled-least}
 use Rattle.optimum.proofs.ExactPower.{exact-covered, exact-close, exact-idle}
 use Rattle.optimum.proofs.ExactCost.{scale-positive}
@@ -64,6 +66,9 @@ module _
         placement = placed-plan;
         equation = reports;
         least = λ other placed. le-trans (le-of-eq reports) (below other placed);
+        no-crossing =
+            subst (λ (l : List ℕ). NoCrossing l) same
+            (shown-no-crossing job full (ruled-uncrossed job passed full ruled .no-crossing));
         full = full;
         seen = sym same;
         uncrossed = ruled-uncrossed job passed full ruled;

@@ -15,7 +15,7 @@ use Rattle.model.specs.Power.{each, held, heaviest, sum, drawn, power}
 use Rattle.optimum.specs.Best.{itself}
 use Rattle.optimum.proofs.Counts.{single-other}
 use Rattle.optimum.proofs.Held.{held-same, held-append, held-absent, sum-append, drawn-is}
-use Rattle.optimum.proofs.Places.{power-same}
+use Rattle.optimum.proofs.NamedPlans.{power-same}
 
 each-range : (f : ℕ → ℕ) (base l g : ℕ) → sum (each f base (l + g)) ≡ sum (each f base l) + sum (each f (base + l) g)
 unfolding each sum

@@ -17,7 +17,7 @@ use Rattle.optimum.specs.Split.{Split, Fill}
 use Rattle.optimum.proofs.Lists.{no-entries, cut-end, last-append}
 use Rattle.optimum.proofs.BestSplit.{at-start}
 use Rattle.optimum.proofs.Shapes.{gaps-end}
-use Rattle.optimum.proofs.Sortings.{top-heaviest}
+use Rattle.optimum.proofs.SortedLoads.{top-heaviest}
 use Rattle.optimum.proofs.RunPower.{charged, power-top}
 use Rattle.optimum.proofs.Cuts.{lowest-cut, member-cut}
 

@@ -9,7 +9,7 @@
 -- Assumes nothing.
 use Prim.Native.Nat.{ℕ, suc, _+_, _*_, _≤_, _<_}
 use mathlib.Core.Path.{_≡_, refl, sym, ap, _∙_}
-use mathlib.Core.Logic.{_⊎_, inl, inr}
+use mathlib.Core.Logic.{inl, inr}
 use mathlib.Core.List.{List, [], _∷_, _++_, append-assoc}
 use native.Mathlib.Nat.{add-mul}
 use native.Mathlib.Decide.{ℕ-discrete, decLt}
@@ -17,7 +17,7 @@ use native.Mathlib.Omega.{arith}
 use lib.ListN.{length, length-append}
 use Rattle.model.specs.Plan.{count, Full}
 use Rattle.optimum.specs.Shape.{Run, Gaps}
-use Rattle.optimum.proofs.Places.{within-else, named-counted}
+use Rattle.optimum.proofs.NamedPlans.{Outside, within-else, named-counted}
 use Rattle.optimum.proofs.Counts.{count-append, single-same, single-other}
 
 -- the members' plan is a lower part, a gap and the member behind it
@@ -53,7 +53,7 @@ mutual
       (Q base v : ℕ) (plan : List ℕ)
       → Run Q base v plan
       → (z : ℕ)
-      → (z ≤ base) ⊎ (base + v < z)
+      → Outside base v z
       → count z plan ≡ 0
   run-outside Q base v plan (Run.empty ev ep) z out = ap (count z) ep
   run-outside Q base v plan (Run.top r m er ev gaps) z (inl below) =
@@ -66,7 +66,7 @@ mutual
       → Gaps Q x base r m plan
       → (z : ℕ)
       → ¬ (x ≡ z)
-      → (z ≤ base) ⊎ (base + m < z)
+      → Outside base m z
       → count z plan ≡ 0
   gaps-outside Q x base r m plan (Gaps.lowest gap er run ep) z n out =
       omega (arith, parts-count z x [] gap plan ep, single-other x z n, run-outside Q base m gap run z out)

@@ -1,9 +1,10 @@
 -- What the caller sees of a full plan.
 --     shown-power         it has the full plan's power: the zeros in front cost nothing
 --     shown-placement     it is a placement, if the last level is fast enough for the last load
+--     shown-no-crossing   it has no crossing, if the full plan has none
 -- Assumes nothing.
 use Prim.Native.Nat.{ℕ, _+_, _*_, _≤_, _<_}
-use mathlib.Core.Path.{_≡_, sym, ap, _∙_}
+use mathlib.Core.Path.{_≡_, sym, ap, _∙_, subst}
 use mathlib.Core.List.{List}
 use native.Mathlib.Nat.{le-of-eq}
 use native.Mathlib.Decide.{decLt}
@@ -12,15 +13,17 @@ use lib.ListN.{length, getD, take, drop, length-take, length-drop, take-append-d
 use lib.Seq.{getD-drop}
 use Rattle.model.specs.Job.{Job}
 use Rattle.model.specs.Plan.{count, Full, padding, padded, shown}
+use Rattle.model.specs.Crossing.{NoCrossing}
 use Rattle.model.specs.Placement.{Placement}
 use Rattle.model.specs.Power.{held, heaviest, power}
 use Rattle.model.specs.Refusals.{Ordered, lastOf}
 use Rattle.model.proofs.Levels.{last-fast}
 use Rattle.optimum.proofs.Counts.{count-append}
 use Rattle.optimum.proofs.Held.{held-length}
-use Rattle.optimum.proofs.Places.{named-within, full-length}
-use Rattle.optimum.proofs.Sortings.{heaviest-at-most}
-use Rattle.optimum.proofs.Ordering.{ordered-most}
+use Rattle.optimum.proofs.NamedPlans.{named-within, full-length}
+use Rattle.optimum.proofs.SortedLoads.{heaviest-at-most}
+use Rattle.optimum.proofs.OrderedLoads.{ordered-most}
+use Rattle.optimum.proofs.Untangled.{Untangled, untangled, no-crossing, untangled-right}
 use Rattle.optimum.proofs.Padding.{power-padded}
 
 module _
@@ -77,3 +80,10 @@ module _
             (heaviest-at-most (lastOf (job .table .frequencies)) z (shown job plan) (job .loads)
             (ordered-most (lastOf (job .table .frequencies)) (job .loads) ordered speed));
       }
+
+pub shown-no-crossing : (job : Job) (plan : List ℕ) → NoCrossing plan → NoCrossing (shown job plan)
+unfolding shown
+shown-no-crossing job plan free =
+    no-crossing (drop (padding job) plan)
+    (untangled-right (take (padding job) plan) (drop (padding job) plan)
+    (subst (λ (l : List ℕ). Untangled l) (sym (take-append-drop (padding job) plan)) (untangled plan free)))

@@ -13,21 +13,12 @@ use lib.ListN.{length}
 use Rattle.model.specs.Plan.{count, highest, Full, Numbered}
 use Rattle.model.specs.TieRule.{Uncrossed}
 use Rattle.optimum.specs.Shape.{Run, Gaps}
-use Rattle.optimum.proofs.Counts.{count-same, count-append, count-none, count-last, single-same, single-other}
-use Rattle.optimum.proofs.Places.{within-else, named-within, named-counted}
+use Rattle.optimum.proofs.Counts.{count-same, count-append, count-last, single-same, single-other}
+use Rattle.optimum.proofs.NamedPlans.{Outside, within-else, named-outside, named-within, named-counted}
 use Rattle.optimum.proofs.Shapes.{parts-count}
 use Rattle.optimum.proofs.Members.{highest-left, highest-right, highest-length, parts-below, parts-behind}
 use Rattle.optimum.proofs.Subsequence.{Has, has-join, some-has}
 use Rattle.optimum.proofs.Untangled.{Untangled, untangled, no-crossing, untangled-left, untangled-right}
-
-full-outside :
-    (Q base v : ℕ) (plan : List ℕ)
-    → Full Q base v plan
-    → (z : ℕ)
-    → (z ≤ base) ⊎ (base + v < z)
-    → count z plan ≡ 0
-full-outside Q base v plan full z (inl below) = count-none z plan (λ j within e. omega (arith, full .named j within .0))
-full-outside Q base v plan full z (inr above) = count-none z plan (λ j within e. omega (arith, full .named j within .1))
 
 -- an island with a place behind the top island's last would have the higher highest position
 last-alone :
@@ -75,7 +66,7 @@ record Fits (Q x base r m : ℕ) (plan : List ℕ) : Type 0 where
   above : base + m < x
   top : count x plan ≡ suc r
   inside : (z : ℕ) → base < z → z ≤ base + m → count z plan ≡ Q
-  outside : (z : ℕ) → ¬ (x ≡ z) → (z ≤ base) ⊎ (base + m < z) → count z plan ≡ 0
+  outside : (z : ℕ) → ¬ (x ≡ z) → Outside base m z → count z plan ≡ 0
   numbered : Numbered base m plan
   free : Untangled plan
 
@@ -85,12 +76,12 @@ whole-fits Q base r m plan er un =
       above = omega arith;
       top = un .full .filled (base + suc m) (omega arith) (omega arith) ∙ sym er;
       inside = λ z low high. un .full .filled z low (omega arith);
-      outside = λ z n out. full-outside Q base (suc m) plan (un .full) z (wider z n out);
+      outside = λ z n out. named-outside base (suc m) plan (un .full .named) z (wider z n out);
       numbered = λ y z low order high. un .numbered y z low order (omega arith);
       free = untangled plan (un .no-crossing);
     }
   where
-    wider : (z : ℕ) → ¬ (base + suc m ≡ z) → (z ≤ base) ⊎ (base + m < z) → (z ≤ base) ⊎ (base + suc m < z)
+    wider : (z : ℕ) → ¬ (base + suc m ≡ z) → Outside base m z → Outside base (suc m) z
     wider z n (inl low) = inl low
     wider z n (inr high) = inr (omega arith)
 

@@ -2,14 +2,14 @@
 --     itself      what an island with a given heaviest load draws by itself
 --     first       the first of m + 1 places at which a figure is least
 --     least       the least of m + 1 figures
+--     gapCost     what the gap below the highest of r + 2 members costs with all below it, if g islands stand in the gap
 --     loadAt      the load above m islands and r members of a run
 --     topLoad     the load of a run's last position
 --     fill        the least cost of the lowest r + 1 members of an island, with m islands in the gaps below them
---     gapCost     what the gap below the highest of r + 2 members costs with all below it, if g islands stand in the gap
 --     best        the least total of a run; bestWithin, the same with a bound on its depth
 --     fillBest    `fill` over these bests
--- A run begins at place i of the list of loads and has v islands. Its inner bests are handed to `fill` as a function, so that what is said
--- of it holds of any table of figures. Assumes nothing.
+-- A run begins at place i of the list of loads and has v islands. The inner bests, and the costs of fewer members, are handed on as
+-- functions, so that what is said holds of any table of figures. Assumes nothing.
 use Prim.Native.Nat.{ℕ, zero, suc, _+_, _-_, _*_}
 use mathlib.Core.Bool.{cond}
 use mathlib.Core.List.{List}
@@ -27,6 +27,10 @@ first (suc m) h = cond (ltb (h (suc m)) (h (first m h))) (suc m) (first m h)
 unfoldable pub least : ℕ → (ℕ → ℕ) → ℕ
 least m h = h (first m h)
 
+-- b gives the bests of the runs in gaps, `below` the costs of r + 1 members by the number of islands in their gaps
+unfoldable pub gapCost : ℕ → (ℕ → ℕ → ℕ) → (ℕ → ℕ) → ℕ → ℕ → ℕ → ℕ → ℕ
+gapCost Q b below i r m g = b (i + ((m - g) * Q + suc r)) g + below (m - g)
+
 -- Q, and the loads at all positions
 module _ (Q : ℕ) (ws : List ℕ) where
   -- the load above m islands and r members, in a run that begins at i
@@ -41,11 +45,7 @@ module _ (Q : ℕ) (ws : List ℕ) where
   module _ (b : ℕ → ℕ → ℕ) (ρ : ℕ) where
     unfoldable pub fill : ℕ → ℕ → ℕ → ℕ
     fill i zero m = ρ * loadAt i m 0 + b i m
-    fill i (suc r) m =
-        ρ * loadAt i m (suc r) + least m (λ g. b (i + ((m - g) * Q + suc r)) g + fill i r (m - g))
-
-    unfoldable pub gapCost : ℕ → ℕ → ℕ → ℕ → ℕ
-    gapCost i r m g = b (i + ((m - g) * Q + suc r)) g + fill i r (m - g)
+    fill i (suc r) m = ρ * loadAt i m (suc r) + least m (gapCost Q b (λ n. fill i r n) i r m)
 
 -- and the island power and the cost by heaviest load
 module _ (Q own : ℕ) (rate : ℕ → ℕ) (ws : List ℕ) where

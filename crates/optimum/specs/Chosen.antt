@@ -6,12 +6,12 @@
 -- Assumes nothing.
 use Prim.Native.Nat.{ℕ, zero, suc, _+_, _-_, _*_}
 use mathlib.Core.List.{List, [], _∷_, _++_}
-use Rattle.optimum.specs.Best.{first, gapCost, topLoad, best}
+use Rattle.optimum.specs.Best.{first, gapCost, topLoad, fill, best}
 
 module _ (Q : ℕ) (ws : List ℕ) (b : ℕ → ℕ → ℕ) where
   -- b gives the bests of the runs in gaps, ρ is what each kHz on the top island is charged
   unfoldable pub chosen : ℕ → ℕ → ℕ → ℕ → ℕ
-  chosen ρ i r m = first m (gapCost Q ws b ρ i r m)
+  chosen ρ i r m = first m (gapCost Q b (fill Q ws b ρ i r) i r m)
 
   -- `inner` writes the run in a gap, by its place, base and number of islands
   unfoldable pub planGaps : (ℕ → ℕ → ℕ → List ℕ) → ℕ → ℕ → ℕ → ℕ → ℕ → ℕ → List ℕ

@@ -11,6 +11,7 @@ use Rattle.model.specs.Power.{total, workload}
 use Rattle.model.specs.Exact.{scale, exact, WholeCosts}
 use Rattle.model.specs.Placement.{Placement}
 use Rattle.model.specs.Plan.{shown}
+use Rattle.model.specs.Crossing.{NoCrossing}
 use Rattle.model.specs.TieRule.{Uncrossed}
 use Rattle.optimum.specs.Passed.{Ruled}
 
@@ -20,11 +21,12 @@ pub record Demand2 (job : Job) (reported : ℕ) (plan : List ℕ) : Type 0 where
   pub equation : reported ≡ total job plan
   -- "No placement with at most the allowed sets per island has a lower total"
   pub least : (other : List ℕ) → Placement job other → reported ≤ total job other
-  -- the plan over all V·Q positions, of which the caller sees the entries of its own loads
+  -- "The returned plan has no crossing islands."
+  pub no-crossing : NoCrossing plan
+  -- the plan over all V·Q positions, of which the caller sees the entries of its own loads: nor has it any, and "The full islands hold
+  -- exactly Q positions each and are numbered […] by their highest position, lowest first."
   pub full : List ℕ
   pub seen : plan ≡ shown job full
-  -- "The returned plan has no crossing islands." "The full islands hold exactly Q positions each and are numbered […] by their highest
-  -- position, lowest first."
   pub uncrossed : Uncrossed (job .cores) 0 (job .islands) full
   -- "among equals the tie rule names one"
   pub ruled : Ruled job full

@@ -1,8 +1,9 @@
 -- Counting over a plan whose entries are all islands of one range.
 --     Named              every entry is one of the islands base + 1 to base + v
+--     Outside, in-or-out an island is one of a range, or below or above it
 --     within-else        an island that is counted lies in a range, if one outside of it would be counted 0 times
---     islands-within     an island that stands in `islands` is one of the range
---     named-within       an island that is counted in such a plan is one of the range
+--     islands-outside, islands-within    an island that stands in `islands` is one of the range
+--     named-outside, named-within        so is one that is counted in such a plan
 --     named-counted      a plan that counts no island but those of the range is such a plan
 --     over-level         the sum of the same figure for every island
 --     counts-length      the counts of all islands, added up, are the places
@@ -11,7 +12,7 @@
 --     power-same         islands of the range that draw the same, one by one, draw the same together
 -- Assumes nothing.
 use Prim.Native.Nat.{ℕ, _+_, _*_, _≤_, _<_}
-use mathlib.Core.Path.{_≡_, refl, sym, ap, subst, _∙_}
+use mathlib.Core.Path.{_≡_, refl, sym, ap, _∙_}
 use mathlib.Core.Logic.{_⊎_, inl, inr}
 use mathlib.Core.List.{List, [], _∷_}
 use native.Mathlib.Nat.{zero-mul, mul-zero, mul-add, suc-inj, suc-ne-zero}
@@ -22,35 +23,48 @@ use lib.ListN.{length, getD}
 use Rattle.model.specs.Plan.{count, Full}
 use Rattle.model.specs.Power.{held, sum, drawn, power}
 use Rattle.optimum.specs.Fair.{over}
-use Rattle.optimum.proofs.Counts.{count-same, count-other, count-later, count-within, count-at}
+use Rattle.optimum.proofs.Counts.{count-same, count-other, count-later, count-none, count-at}
 use Rattle.optimum.proofs.Spread.{islands, weighed, alone, islands-below, islands-above, islands-once, islands-length}
 use Rattle.optimum.proofs.Spread.{each-over, over-same, over-sum, over-one, spread}
 
 abbrev pub Named : ℕ → ℕ → List ℕ → Type 0
 Named base v plan = (j : ℕ) → j < length plan → (base < getD plan j 0) × (getD plan j 0 ≤ base + v)
 
-pub within-else : (base v z k : ℕ) → ((z ≤ base) ⊎ (base + v < z) → k ≡ 0) → 0 < k → (base < z) × (z ≤ base + v)
-within-else base v z k outside some =
+-- outside the range of the islands base + 1 to base + v
+abbrev pub Outside : ℕ → ℕ → ℕ → Type 0
+Outside base v z = (z ≤ base) ⊎ (base + v < z)
+
+pub in-or-out : (base v z : ℕ) → ((base < z) × (z ≤ base + v)) ⊎ Outside base v z
+in-or-out base v z =
     elim (decLt base z) [
       | yes low ↦
           elim (decLt (base + v) z) [
-            | yes high ↦ absurd (omega (arith, outside (inr high)))
-            | no high ↦ (low, omega arith)
+            | yes above ↦ inr (inr above)
+            | no high ↦ inl (low, omega arith)
           ]
-      | no low ↦ absurd (omega (arith, outside (inl (omega arith))))
+      | no below ↦ inr (inl (omega arith))
     ]
 
+pub within-else : (base v z k : ℕ) → (Outside base v z → k ≡ 0) → 0 < k → (base < z) × (z ≤ base + v)
+within-else base v z k outside some =
+    elim (in-or-out base v z) [
+      | inl within ↦ within
+      | inr out ↦ absurd (omega (arith, outside out))
+    ]
+
+pub islands-outside : (base v z : ℕ) → Outside base v z → count z (islands base v) ≡ 0
+islands-outside base v z (inl below) = islands-below base v z below
+islands-outside base v z (inr above) = islands-above base v z above
+
 pub islands-within : (base v z : ℕ) → 0 < count z (islands base v) → (base < z) × (z ≤ base + v)
-islands-within base v z = within-else base v z (count z (islands base v)) outside
-  where
-    outside : (z ≤ base) ⊎ (base + v < z) → count z (islands base v) ≡ 0
-    outside (inl below) = islands-below base v z below
-    outside (inr above) = islands-above base v z above
+islands-within base v z = within-else base v z (count z (islands base v)) (islands-outside base v z)
+
+pub named-outside : (base v : ℕ) (plan : List ℕ) → Named base v plan → (z : ℕ) → Outside base v z → count z plan ≡ 0
+named-outside base v plan named z (inl below) = count-none z plan (λ j h e. omega (arith, named j h .0))
+named-outside base v plan named z (inr above) = count-none z plan (λ j h e. omega (arith, named j h .1))
 
 pub named-within : (base v : ℕ) (plan : List ℕ) → Named base v plan → (z : ℕ) → 0 < count z plan → (base < z) × (z ≤ base + v)
-named-within base v plan named z some =
-    let at = count-within z plan some in
-    subst (λ (x : ℕ). (base < x) × (x ≤ base + v)) (at .2) (named (at .0) (at .1))
+named-within base v plan named z = within-else base v z (count z plan) (named-outside base v plan named z)
 
 named-once : (base v : ℕ) (plan : List ℕ) → Named base v plan → (z : ℕ) → 0 < count z plan → count z (islands base v) ≡ 1
 named-once base v plan named z some =
