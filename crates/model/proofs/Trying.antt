@@ -1,12 +1,16 @@
 -- "The first that applies" is one: of each list of conditions at most one number is the first, and each number is one cause.
---     tried-one    two numbers that are the first are equal
---     cause-one    two causes with one number are equal
---     cause-some   no cause has the number 0
+--     tried-one        two numbers that are the first are equal
+--     tried-refused    what is refused by a list is refused by each longer one, by the same number
+--     tried-onward     where a list's conditions all hold, what follows it decides
+--     all-hold         0 says that they all hold, where each number is above 0
+--     cause-one        two causes with one number are equal
+--     cause-some       no cause has the number 0
 -- Assumes nothing.
 use Prim.Native.Nat.{ℕ, _-_, _<_}
 use mathlib.Core.Path.{_≡_, refl, sym, ap, _∙_}
 use mathlib.Core.Logic.{inl, inr}
-use mathlib.Core.List.{List, [], _∷_}
+use mathlib.Core.List.{List, [], _∷_, _++_}
+use native.Mathlib.Omega.{arith}
 use lib.Dec.{lit<}
 use lib.ListN.{getD}
 use Rattle.model.specs.declared.Refusal.{Refusal}
@@ -19,6 +23,30 @@ tried-one (c ∷ cs) m n (inl p) (inl q) = p .1 ∙ sym (q .1)
 tried-one (c ∷ cs) m n (inl p) (inr q) = absurd (p .0 (q .0))
 tried-one (c ∷ cs) m n (inr p) (inl q) = absurd (q .0 (p .0))
 tried-one (c ∷ cs) m n (inr p) (inr q) = tried-one cs m n (p .1) (q .1)
+
+pub tried-refused : (cs ds : List Condition) (n : ℕ) → 0 < n → Tried cs n → Tried (cs ++ ds) n
+tried-refused [] ds n some none = absurd (omega arith)
+tried-refused (c ∷ cs) ds n some (inl refused) = inl refused
+tried-refused (c ∷ cs) ds n some (inr passed) = inr (passed .0, tried-refused cs ds n some (passed .1))
+
+-- all conditions of a list hold
+abbrev pub AllHold : List Condition → Type 0
+AllHold [] = Unit {0}
+AllHold (c ∷ cs) = c .holds × AllHold cs
+
+-- each has a number above 0, so that 0 is left for "none is refused"
+abbrev pub Numbers : List Condition → Type 0
+Numbers [] = Unit {0}
+Numbers (c ∷ cs) = (0 < c .number) × Numbers cs
+
+pub all-hold : (cs : List Condition) → Numbers cs → Tried cs 0 → AllHold cs
+all-hold [] some none = tt
+all-hold (c ∷ cs) some (inl refused) = absurd (omega (arith, some .0, refused .1))
+all-hold (c ∷ cs) some (inr passed) = (passed .0, all-hold cs (some .1) (passed .1))
+
+pub tried-onward : (cs ds : List Condition) (n : ℕ) → AllHold cs → Tried ds n → Tried (cs ++ ds) n
+tried-onward [] ds n held tried = tried
+tried-onward (c ∷ cs) ds n held tried = inr (held .0, tried-onward cs ds n (held .1) tried)
 
 -- the causes in order, so that a number finds its cause again
 inOrder : List Refusal

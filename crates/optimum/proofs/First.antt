@@ -1,9 +1,11 @@
 -- The first place at which a figure is least.
+--     first-new        one place more, with less, is it
+--     first-kept       one place more, with no less, is not
 --     first-within     it is one of the m + 1 places
 --     first-least      no place has less
 --     first-before     every place before it has more
 --     first-one        a place of which these three are said is it
---     least-same       figures that are equal at the m + 1 places have one least figure
+--     first-same, least-same    figures that are equal at the m + 1 places have one first place, and one least figure
 --     least-below      the least figure is at most that of every place
 -- Assumes nothing.
 use Prim.Native.Nat.{ℕ, zero, suc, _≤_, _<_, zero-le}
@@ -14,11 +16,11 @@ use native.Mathlib.Omega.{arith}
 use borrow.Author.Tests.{lt-ltb, le-ltb}
 use Rattle.optimum.specs.Best.{first, least}
 
-first-new : (m : ℕ) (h : ℕ → ℕ) → h (suc m) < h (first m h) → first (suc m) h ≡ suc m
+pub first-new : (m : ℕ) (h : ℕ → ℕ) → h (suc m) < h (first m h) → first (suc m) h ≡ suc m
 unfolding first
 first-new m h less = rw (lt-ltb (h (suc m)) (h (first m h)) less)
 
-first-kept : (m : ℕ) (h : ℕ → ℕ) → ¬ (h (suc m) < h (first m h)) → first (suc m) h ≡ first m h
+pub first-kept : (m : ℕ) (h : ℕ → ℕ) → ¬ (h (suc m) < h (first m h)) → first (suc m) h ≡ first m h
 unfolding first
 first-kept m h more = rw (le-ltb (h (suc m)) (h (first m h)) (omega arith))
 
@@ -76,7 +78,7 @@ first-one m h g within below before =
           ]
     ]
 
-first-same : (m : ℕ) (h h′ : ℕ → ℕ) → ((k : ℕ) → k ≤ m → h k ≡ h′ k) → first m h ≡ first m h′
+pub first-same : (m : ℕ) (h h′ : ℕ → ℕ) → ((k : ℕ) → k ≤ m → h k ≡ h′ k) → first m h ≡ first m h′
 first-same m h h′ same =
     first-one m h (first m h′) (first-within m h′)
     (λ k b. omega (arith, same k b, same (first m h′) (first-within m h′), first-least m h′ k b))

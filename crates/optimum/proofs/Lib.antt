@@ -36,6 +36,9 @@ pub mod ChosenLeads
 pub mod GapParts
 pub mod ChosenRule
 pub mod RuleOne
+-- the recurrence and the plan function over any table of figures
+pub mod BestBound
+pub mod ChosenSame
 -- from full plans to placements, from rounded costs to exact ones, and from there to answers
 pub mod Padding
 pub mod Placements

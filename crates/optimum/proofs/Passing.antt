@@ -3,34 +3,22 @@
 --     placement-exists   of a well-formed job a placement exists exactly where count and speed allow it
 --     count-or-speed     so it is refused by 6 or 8 exactly where none exists
 -- Assumes nothing.
-use Prim.Native.Nat.{ℕ, _*_, _≤_, _<_}
+use Prim.Native.Nat.{ℕ, _*_, _≤_}
 use mathlib.Core.Path.{_≡_, refl}
 use mathlib.Core.Logic.{_⊎_, inl, inr, _↔_}
-use mathlib.Core.List.{List, [], _∷_, _++_}
+use mathlib.Core.List.{List, _++_}
 use native.Mathlib.Omega.{arith}
 use lib.Dec.{lit<}
 use lib.ListN.{length, drop}
 use Rattle.model.specs.Job.{Job}
 use Rattle.model.specs.Placement.{Placement}
 use Rattle.model.specs.Plan.{shown}
-use Rattle.model.specs.Refusals.{Condition, Tried, RoomEnough, conditions, loadConditions, roomConditions, lastOf}
+use Rattle.model.specs.Refusals.{Tried, RoomEnough, conditions, loadConditions, roomConditions, lastOf}
+use Rattle.model.proofs.Trying.{all-hold}
 use Rattle.optimum.specs.OfJob.{planOf}
 use Rattle.optimum.specs.Passed.{WellFormed, Passed}
 use Rattle.optimum.proofs.Placements.{placement-fits, placement-speed}
 use Rattle.optimum.proofs.DemandTwo.{plan-placement}
-
-abbrev AllHold : List Condition → Type 0
-AllHold [] = Unit {0}
-AllHold (c ∷ cs) = c .holds × AllHold cs
-
-abbrev Numbers : List Condition → Type 0
-Numbers [] = Unit {0}
-Numbers (c ∷ cs) = (0 < c .number) × Numbers cs
-
-all-hold : (cs : List Condition) → Numbers cs → Tried cs 0 → AllHold cs
-all-hold [] some none = tt
-all-hold (c ∷ cs) some (inl refused) = absurd (omega (arith, some .0, refused .1))
-all-hold (c ∷ cs) some (inr passed) = (passed .0, all-hold cs (some .1) (passed .1))
 
 -- a condition that holds is passed over
 past : {A B C : Type 0} → A → ((¬ A) × C) ⊎ (A × B) → B

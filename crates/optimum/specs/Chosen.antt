@@ -2,6 +2,7 @@
 --     chosen      how many islands the top gap gets
 --     planGaps    the gap walker: the lowest r + 1 members of the island x with m islands in the gaps below them
 --     planRun     the run writer: a run that begins at place i, its islands base + 1 to base + v; planWithin, with a bound on its depth
+--     planBy      the run writer over any table of bests
 --     bestGap, walk    `chosen` and `planGaps` over the bests and over these runs
 -- Assumes nothing.
 use Prim.Native.Nat.{ℕ, zero, suc, _+_, _-_, _*_}
@@ -28,8 +29,12 @@ module _ (Q : ℕ) (ws : List ℕ) (b : ℕ → ℕ → ℕ) where
     planWithin (suc n) i base (suc m) =
         planGaps (planWithin n) (rate (topLoad Q ws i m)) (base + suc m) i base (Q - 1) m
 
+    -- the run writer over these bests
+    abbrev pub planBy : ℕ → ℕ → ℕ → List ℕ
+    planBy i base v = planWithin v i base v
+
 unfoldable pub planRun : ℕ → ℕ → (ℕ → ℕ) → List ℕ → ℕ → ℕ → ℕ → List ℕ
-planRun Q own rate ws i base v = planWithin Q ws (best Q own rate ws) rate v i base v
+planRun Q own rate ws = planBy Q ws (best Q own rate ws) rate
 
 -- over the bests of the recurrence and the runs of this function: what the gap below a member gets, and the walker
 module _ (Q own : ℕ) (rate : ℕ → ℕ) (ws : List ℕ) where

@@ -1,2 +1,12 @@
 pub mod Products
 pub mod Answers
+pub mod Charges
+pub mod Filled
+pub mod LevelBytes
+pub mod Square
+pub mod Rows
+pub mod Fitting
+pub mod Growing
+pub mod Stores
+pub mod Sums
+pub mod Writing

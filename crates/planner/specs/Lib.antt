@@ -1,1 +1,7 @@
 pub mod Judged
+pub mod Given
+pub mod Positions
+pub mod Square
+pub mod Rows
+pub mod Bounds
+pub mod Written

@@ -1,2 +1,7 @@
-// The planner: one job in, one plan out. So far the level table that every plan is charged by.
+// The planner: one job in, one plan out.
+mod bytes;
+mod positions;
+mod refuse;
+mod search;
 pub mod table;
+mod write;

@@ -1,0 +1,57 @@
+-- What keeps every sum within 64 bits.
+--     most-charge    the cost of a level is at most this: 10000000 microwatts at 1000 kHz
+--     most-member    what one load is charged is at most this
+--     most-own       what an active island draws by itself, in picowatts, is at most this
+--     most-draw      what an island draws is at most this: its own power and eight members
+--     AllBelow       each of m + 1 figures is below a bound
+--     Light          every load is within the highest frequency that a table may have
+--     Sized          a board of at most 64 positions, loads in range, a whole square
+--     Cheap          a charge for every position, none too high
+--     Bounded        the table has at most so much for the runs of at most v islands
+--     Fits           a run of m + 1 islands from i on, over these and with a charge ρ
+-- Assumes nothing.
+use Prim.Native.Nat.{ℕ, suc, _+_, _*_, _≤_, _<_}
+use mathlib.Core.Path.{_≡_}
+use mathlib.Core.List.{List}
+use lib.ListN.{length, getD}
+use Rattle.model.specs.Limits.{most-frequency, most-cores, most-islands, most-places}
+use Rattle.planner.specs.Square.{bestAt}
+
+abbrev pub most-charge : ℕ
+most-charge = 10000000000
+
+abbrev pub most-member : ℕ
+most-member = 40000000000000000
+
+abbrev pub most-own : ℕ
+most-own = 1000000000000000
+
+abbrev pub most-draw : ℕ
+most-draw = 321000000000000000
+
+abbrev pub AllBelow : ℕ → ℕ → (ℕ → ℕ) → Type 0
+AllBelow bound m h = (g : ℕ) → g ≤ m → h g < bound
+
+abbrev pub Light : List ℕ → Type 0
+Light ws = (k : ℕ) → getD ws k 0 ≤ most-frequency
+
+pub record Sized (Q : ℕ) (ws bests : List ℕ) : Type 0 where
+  pub some-core : 0 < Q
+  pub few-cores : Q ≤ most-cores
+  pub few-places : length ws ≤ most-places
+  pub square : length bests ≡ 4096
+  pub light : Light ws
+
+pub record Cheap (ws rates : List ℕ) : Type 0 where
+  pub same-length : length rates ≡ length ws
+  pub cheap : (k : ℕ) → getD rates k 0 ≤ most-charge
+
+abbrev pub Bounded : ℕ → List ℕ → List ℕ → ℕ → Type 0
+Bounded Q ws bests v = (i g : ℕ) → g ≤ v → i + g * Q ≤ length ws → bestAt Q bests i g ≤ g * most-draw
+
+pub record Fits (Q ρ i m : ℕ) (ws bests : List ℕ) : Type 0 where
+  pub sized : Sized Q ws bests
+  pub charge : ρ ≤ most-charge
+  pub few : m < most-islands
+  pub within : i + suc m * Q ≤ length ws
+  pub bounded : Bounded Q ws bests m

@@ -1,0 +1,39 @@
+-- What is known of each position, by its place in a list beside the loads.
+--     Looked     the level of each load, counted from 0
+--     Costed     the cost of each of these levels
+--     Charged    what an island is charged whose heaviest load is that one
+--     Below      every entry of a list is below a bound
+--     Named      every entry of a plan is the number of one of so many islands
+--     Blank      every entry of a list is 0
+--     Numbers    the level bytes that the levels of the loads give, whatever the job's table
+-- Assumes nothing.
+use Prim.Native.Nat.{ℕ, _≤_, _<_}
+use mathlib.Core.Path.{_≡_}
+use mathlib.Core.List.{List}
+use lib.ListN.{length, getD}
+use Rattle.model.specs.Table.{Table}
+use Rattle.model.specs.Level.{lowest, cost}
+use Rattle.model.specs.Job.{Job}
+use Rattle.model.specs.Power.{levels}
+
+abbrev pub Looked : List ℕ → List ℕ → List ℕ → Type 0
+Looked frequencies ws steps = (k : ℕ) → k < length ws → getD steps k 0 ≡ lowest frequencies (getD ws k 0)
+
+abbrev pub Costed : Table → List ℕ → List ℕ → Type 0
+Costed t steps rates = (k : ℕ) → k < length steps → getD rates k 0 ≡ cost t (getD steps k 0)
+
+abbrev pub Charged : (ℕ → ℕ) → List ℕ → List ℕ → Type 0
+Charged rate ws rates = (k : ℕ) → k < length ws → getD rates k 0 ≡ rate (getD ws k 0)
+
+abbrev pub Below : ℕ → List ℕ → Type 0
+Below bound xs = (k : ℕ) → k < length xs → getD xs k 0 < bound
+
+abbrev pub Named : ℕ → List ℕ → Type 0
+Named islands plan = (k : ℕ) → k < length plan → (0 < getD plan k 0) × (getD plan k 0 ≤ islands)
+
+abbrev pub Blank : List ℕ → Type 0
+Blank xs = (k : ℕ) → getD xs k 0 ≡ 0
+
+abbrev pub Numbers : List ℕ → List ℕ → List ℕ → ℕ → List ℕ → Type 0
+Numbers ws plan steps islands numbers =
+    (job : Job) → job .loads ≡ ws → job .islands ≡ islands → Looked (job .table .frequencies) ws steps → numbers ≡ levels job plan

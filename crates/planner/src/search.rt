@@ -1,0 +1,270 @@
+// The best totals of all runs: a square by first and last position, filled by the recurrence from the shortest runs up.
+// A run begins at a position, counted from 0, and has whole islands; its last position holds the heaviest load of its top island.
+use units::Femtojoules;
+use units::Kilohertz;
+use units::Picowatts;
+ghost use mathlib.Core.Path.{_≡_};
+ghost use Prim.Native.Nat.{suc, _+_, _-_, _*_, _≤_, _<_, _^_};
+ghost use lib.ListN.{length, getD};
+ghost use Rattle.model.specs.Limits.{most-islands};
+ghost use Rattle.optimum.specs.Best.{itself, first, least, gapCost};
+ghost use Rattle.planner.specs.Square.{place, bestAt, runCost, Grown, Found};
+ghost use Rattle.planner.specs.Rows.{rowAt, Filling};
+ghost use Rattle.planner.specs.Bounds.{most-own, AllBelow, Sized, Cheap, Bounded, Fits};
+
+// A gap below a member: the islands in it, and what it costs with all below it.
+pub(crate) struct Gap {
+    pub(crate) islands: usize,
+    pub(crate) cost: u64,
+}
+
+// The place of a run of some islands in the table of bests: by its first and its last position.
+fn place(cores: usize, start: usize, islands: usize) -> usize
+    requires { ⌜ (0 < islands * cores) × (start + islands * cores ≤ 64) ⌝ }
+    ensures { λ r. ⌜ r ≡ place cores start islands ⌝ }
+{
+    start * 64 + (start + islands * cores - 1)
+}
+
+// What the table has for a run. A run of no islands costs nothing and has no place.
+pub(crate) fn best_at(bests: &[u64], cores: usize, start: usize, islands: usize) -> u64
+    requires { ⌜ length (now bests) ≡ 4096 ⌝ }
+    requires { ⌜ (0 < cores) × (start + islands * cores ≤ 64) ⌝ }
+    ensures { λ r. ⌜ r ≡ bestAt cores (now (bests .entry)) start islands ⌝ }
+{
+    if islands < 1 {
+        return 0;
+    }
+    bests[place(cores, start, islands)]
+}
+
+// What a load is charged. One kilohertz at one femtojoule per cycle is one picowatt.
+fn drawn(rate: Femtojoules, load: Kilohertz) -> Picowatts
+    requires { ⌜ rate .0 * load .0 < 2 ^ 64 ⌝ }
+    ensures { λ r. ⌜ r .0 ≡ rate .0 * load .0 ⌝ }
+{
+    Picowatts(rate.0 * load.0)
+}
+
+// What a member at a position is charged, with what the rest costs.
+fn with_member(positions: &[u64], at: usize, rate: Femtojoules, rest: u64) -> u64
+    requires { ⌜ at < length (now positions) ⌝ }
+    requires { ⌜ rate .0 * getD (now positions) at 0 + rest < 2 ^ 64 ⌝ }
+    ensures { λ r. ⌜ r ≡ rate .0 * getD (now (positions .entry)) at 0 + rest ⌝ }
+{
+    drawn(rate, Kilohertz(positions[at])).0 + rest
+}
+
+// What the gap below the highest of r + 2 members costs with all below it, if g of the m islands stand in the gap.
+fn gap_cost(
+    bests: &[u64],
+    rows: &[u64],
+    cores: usize,
+    start: usize,
+    r: usize,
+    m: usize,
+    g: usize,
+) -> u64
+    requires { ⌜ (length (now bests) ≡ 4096) × (length (now rows) ≡ 64) ⌝ }
+    requires { ⌜ (0 < cores) × (r < 8) × (m < most-islands) × (g ≤ m) × (start + (m * cores + suc r) ≤ 64) ⌝ }
+    requires { ⌜ gapCost cores (bestAt cores (now bests)) (rowAt (now rows) r) start r m g < 2 ^ 64 ⌝ }
+    ensures { λ c. ⌜ c ≡ gapCost cores (bestAt cores (now (bests .entry))) (rowAt (now (rows .entry)) r) start r m g ⌝ }
+{
+    let left = m - g;
+    best_at(bests, cores, start + (left * cores + (r + 1)), g) + rows[r * 8 + left]
+}
+
+// The smallest gap that costs least.
+pub(crate) fn least_gap(
+    bests: &[u64],
+    rows: &[u64],
+    cores: usize,
+    start: usize,
+    r: usize,
+    m: usize,
+) -> Gap
+    requires { ⌜ (length (now bests) ≡ 4096) × (length (now rows) ≡ 64) ⌝ }
+    requires { ⌜ (0 < cores) × (r < 8) × (m < most-islands) × (start + (m * cores + suc r) ≤ 64) ⌝ }
+    requires { ⌜ AllBelow (2 ^ 64) m (gapCost cores (bestAt cores (now bests)) (rowAt (now rows) r) start r m) ⌝ }
+    ensures { λ c. ⌜ c .islands ≡ first m (gapCost cores (bestAt cores (now (bests .entry))) (rowAt (now (rows .entry)) r) start r m) ⌝ }
+    ensures { λ c. ⌜ c .cost ≡ least m (gapCost cores (bestAt cores (now (bests .entry))) (rowAt (now (rows .entry)) r) start r m) ⌝ }
+{
+    let mut islands = 0;
+    let mut cost = gap_cost(bests, rows, cores, start, r, m, 0);
+    let mut g = 0;
+    while g < m {
+        g += 1;
+        let other = gap_cost(bests, rows, cores, start, r, m, g);
+        if other < cost {
+            islands = g;
+            cost = other;
+        }
+    }
+    Gap { islands, cost }
+}
+
+// The row of the lowest member: what it is charged, and the best of the run below it.
+fn lowest_row(
+    bests: &[u64],
+    positions: &[u64],
+    rows: &mut [u64],
+    cores: usize,
+    start: usize,
+    rate: Femtojoules,
+    m: usize,
+)
+    requires { ⌜ Fits cores (rate .0) start m (now positions) (now bests) ⌝ }
+    requires { ⌜ length (now rows) ≡ 64 ⌝ }
+    ensures { λ _. ⌜ Filling cores (now (positions .entry)) (bestAt cores (now (bests .entry))) (rate .0) start (now (rows .exit)) 0 m ⌝ }
+{
+    let mut n = 0;
+    while n <= m {
+        rows[n] = with_member(
+            positions,
+            start + n * cores,
+            rate,
+            best_at(bests, cores, start, n),
+        );
+        n += 1;
+    }
+}
+
+// The row of one member more, from those below it.
+fn next_row(
+    bests: &[u64],
+    positions: &[u64],
+    rows: &mut [u64],
+    cores: usize,
+    start: usize,
+    rate: Femtojoules,
+    r: usize,
+    m: usize,
+)
+    requires { ⌜ Fits cores (rate .0) start m (now positions) (now bests) ⌝ }
+    requires { ⌜ length (now rows) ≡ 64 ⌝ }
+    requires { ⌜ suc r < cores ⌝ }
+    requires { ⌜ Filling cores (now positions) (bestAt cores (now bests)) (rate .0) start (now rows) r m ⌝ }
+    ensures { λ _. ⌜ Filling cores (now (positions .entry)) (bestAt cores (now (bests .entry))) (rate .0) start (now (rows .exit)) (suc r) m ⌝ }
+{
+    let mut n = 0;
+    while n <= m {
+        let gap = least_gap(bests, rows, cores, start, r, n);
+        rows[(r + 1) * 8 + n] = with_member(
+            positions,
+            start + (n * cores + (r + 1)),
+            rate,
+            gap.cost,
+        );
+        n += 1;
+    }
+}
+
+// The rows of all members.
+pub(crate) fn fill_rows(
+    bests: &[u64],
+    positions: &[u64],
+    rows: &mut [u64],
+    cores: usize,
+    start: usize,
+    rate: Femtojoules,
+    m: usize,
+)
+    requires { ⌜ Fits cores (rate .0) start m (now positions) (now bests) ⌝ }
+    requires { ⌜ length (now rows) ≡ 64 ⌝ }
+    ensures { λ _. ⌜ Filling cores (now (positions .entry)) (bestAt cores (now (bests .entry))) (rate .0) start (now (rows .exit)) (cores - 1) m ⌝ }
+{
+    lowest_row(bests, positions, rows, cores, start, rate, m);
+    let mut r = 0;
+    while r + 1 < cores {
+        next_row(bests, positions, rows, cores, start, rate, r, m);
+        r += 1;
+    }
+}
+
+// What an island draws by itself: nothing where its heaviest load is 0.
+fn by_itself(own: Picowatts, top: Kilohertz) -> Picowatts
+    ensures { λ r. ⌜ r .0 ≡ itself (own .0) (top .0) ⌝ }
+{
+    if top.0 < 1 {
+        return Picowatts(0);
+    }
+    own
+}
+
+// The total of a run of m + 1 islands.
+fn run_cost(
+    bests: &[u64],
+    positions: &[u64],
+    rates: &[u64],
+    rows: &mut [u64],
+    cores: usize,
+    own: Picowatts,
+    start: usize,
+    m: usize,
+) -> u64
+    requires { ⌜ Fits cores (getD (now rates) (start + (m * cores + (cores - 1))) 0) start m (now positions) (now bests) ⌝ }
+    requires { ⌜ (length (now rates) ≡ length (now positions)) × (own .0 ≤ most-own) ⌝ }
+    requires { ⌜ length (now rows) ≡ 64 ⌝ }
+    ensures { λ r. ⌜ r ≡ runCost cores (own .0) (now (positions .entry)) (now (rates .entry)) (bestAt cores (now (bests .entry))) start m ⌝ }
+{
+    let last = start + (m * cores + (cores - 1));
+    fill_rows(
+        bests,
+        positions,
+        rows,
+        cores,
+        start,
+        Femtojoules(rates[last]),
+        m,
+    );
+    by_itself(own, Kilohertz(positions[last])).0 + rows[(cores - 1) * 8 + m]
+}
+
+// All runs of m + 1 islands, added to a table that has the shorter ones.
+fn runs_of(
+    bests: &mut [u64],
+    positions: &[u64],
+    rates: &[u64],
+    rows: &mut [u64],
+    cores: usize,
+    own: Picowatts,
+    m: usize,
+)
+    requires { ⌜ Sized cores (now positions) (now bests) ⌝ }
+    requires { ⌜ Cheap (now positions) (now rates) ⌝ }
+    requires { ⌜ (own .0 ≤ most-own) × (m < most-islands) ⌝ }
+    requires { ⌜ length (now rows) ≡ 64 ⌝ }
+    requires { ⌜ Bounded cores (now positions) (now bests) m ⌝ }
+    ensures { λ _. ⌜ Grown cores (own .0) (now (positions .entry)) (now (rates .entry)) (now (bests .entry)) (now (bests .exit)) m ⌝ }
+{
+    let size = (m + 1) * cores;
+    let mut start = 0;
+    while start + size <= positions.len() {
+        let cost = run_cost(bests, positions, rates, rows, cores, own, start, m);
+        bests[place(cores, start, m + 1)] = cost;
+        start += 1;
+    }
+}
+
+// The whole table, from the shortest runs up.
+pub(crate) fn search(
+    bests: &mut [u64],
+    positions: &[u64],
+    rates: &[u64],
+    cores: usize,
+    own: Picowatts,
+    islands: usize,
+)
+    requires { ⌜ Sized cores (now positions) (now bests) ⌝ }
+    requires { ⌜ Cheap (now positions) (now rates) ⌝ }
+    requires { ⌜ (own .0 ≤ most-own) × (islands ≤ most-islands) ⌝ }
+    ensures { λ _. ⌜ Found cores (own .0) (now (positions .entry)) (now (rates .entry)) (now (bests .exit)) islands ⌝ }
+    ensures { λ _. ⌜ Bounded cores (now (positions .entry)) (now (bests .exit)) islands ⌝ }
+{
+    let mut rows = [0u64; 64];
+    let mut m = 0;
+    while m < islands {
+        runs_of(bests, positions, rates, &mut rows, cores, own, m);
+        m += 1;
+    }
+}
