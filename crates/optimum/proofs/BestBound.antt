@@ -1,7 +1,6 @@
 -- What the recurrence comes to at most, over any figures: W bounds what an island in a gap costs, P what a member is charged.
 --     Capped      the bests of the runs of at most m islands that end at or before a place are at most W for each island
 --     fill-most   r + 1 members with m islands in the gaps below them
---     gap-most    the gap below the highest of r + 2 members, with all below it
 -- Assumes nothing.
 use Prim.Native.Nat.{ℕ, zero, suc, _+_, _-_, _*_, _≤_, zero-le}
 use mathlib.Core.List.{List}
@@ -46,11 +45,3 @@ module _
         least-below m (gapCost Q b (fill Q ws b ρ i r) i r m) 0 zero-le,
         gap-capped r m (fill-most r) most 0 zero-le,
       )
-
-  pub gap-most :
-      (r m : ℕ)
-      → Capped W Q b m (i + (m * Q + suc r))
-      → (g : ℕ)
-      → g ≤ m
-      → gapCost Q b (fill Q ws b ρ i r) i r m g ≤ m * W + suc r * P
-  gap-most r m = gap-capped r m (fill-most r)

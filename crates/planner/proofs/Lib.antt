@@ -8,5 +8,4 @@ pub mod Rows
 pub mod Fitting
 pub mod Growing
 pub mod Stores
-pub mod Sums
 pub mod Writing

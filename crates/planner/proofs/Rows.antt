@@ -6,7 +6,7 @@
 --     gap-by-rows   rows that are those of the recurrence give the costs of gaps that the recurrence has
 -- Assumes nothing.
 use Prim.Native.Nat.{ℕ, suc, _+_, _-_, _*_, _≤_, _<_}
-use mathlib.Core.Path.{_≡_, sym, ap, _∙_, subst}
+use mathlib.Core.Path.{_≡_, sym, ap, _∙_}
 use mathlib.Core.List.{List}
 use native.Mathlib.Nat.{sub-le}
 use native.Mathlib.Decide.{ℕ-discrete}

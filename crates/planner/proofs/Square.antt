@@ -7,7 +7,7 @@
 --     best-others     and it has for every other run what it had
 -- Only the first two look into `place`. Assumes nothing.
 use Prim.Native.Nat.{ℕ, zero, suc, _+_, _-_, _*_, _≤_, _<_}
-use mathlib.Core.Path.{_≡_, refl, sym, ap, _∙_, subst}
+use mathlib.Core.Path.{_≡_, refl, sym, subst}
 use mathlib.Core.List.{List}
 use native.Mathlib.Nat.{eq-of-mul-eq-mul-right, mul-pos, not-suc-le-zero}
 use native.Mathlib.Omega.{arith}

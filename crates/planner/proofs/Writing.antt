@@ -21,6 +21,7 @@ use Rattle.optimum.proofs.ChosenSame.{walker-length, plan-length}
 use Rattle.planner.specs.Square.{bestAt}
 use Rattle.planner.specs.Rows.{rowAt, Filling}
 use Rattle.planner.specs.Written.{RunWritten, GapsWritten}
+use Rattle.planner.proofs.Rows.{gap-by-rows}
 use Rattle.planner.proofs.Stores.{sets-joined, sets-three}
 
 pub found-within : (m g : ℕ) (h : ℕ → ℕ) → g ≡ first m h → g ≤ m
@@ -42,10 +43,10 @@ module _ (Q : ℕ) (ws rates bests rows : List ℕ) where
   -- over rows of the recurrence, the gap that costs least is the one that the plan chooses
   found-chosen :
       (ρ i r m : ℕ) → Filling Q ws b ρ i rows r m → first m (gapCost Q b (rowAt rows r) i r m) ≡ chosen Q ws b ρ i r m
-  unfolding chosen gapCost
+  unfolding chosen
   found-chosen ρ i r m filling =
       first-same m (gapCost Q b (rowAt rows r) i r m) (gapCost Q b (fill Q ws b ρ i r) i r m)
-      (λ g h. ap (λ (n : ℕ). b (i + ((m - g) * Q + suc r)) g + n) (filling r (m - g) (le-refl r) (omega arith)))
+      (λ g h. gap-by-rows Q b (rowAt rows r) (fill Q ws b ρ i r) i r m (λ n few. filling r n (le-refl r) few) g)
 
   pub lowest-written :
       (before after : List ℕ) (x i base r m : ℕ)

@@ -9,8 +9,8 @@ use lib.ListN.{length, getD, length-set}
 use Rattle.optimum.specs.Best.{fill}
 use Rattle.planner.specs.Square.{bestAt}
 use Rattle.planner.specs.Rows.{rowAt, Filling}
-use Rattle.planner.proofs.Rows.{row-grown, rows-kept, next-sum, gap-by-rows}
-use Rattle.planner.proofs.Fitting.{below-member, row-fits, gaps-fit}
+use Rattle.planner.proofs.Rows.{row-grown, rows-kept, next-sum}
+use Rattle.planner.proofs.Fitting.{below-member, row-fits, filled-low, gaps-fit}
 use Rattle.planner.proofs.search.next_row.Statement.{statement}
 use Rattle.planner.proofs.search.next_row.Tie as tie
 
@@ -99,14 +99,11 @@ least-gap-requires c κs =
       (run .pre .0 .sized .square, c .before .before .loop .inv .1 ∙ run .pre .1 .0),
       (
         (run .pre .0 .sized .some-core, omega (arith, low (c .before)), short (c .before), omega (arith, inside (c .before))),
-        λ g bound.
-            subst (λ (k : ℕ). k < 2 ^ 64)
-            (sym
-            (gap-by-rows (run .args .cores) (bestAt (run .args .cores) (run .args .bests .now)) (rowAt rows (run .args .r))
-            (fill (run .args .cores) (run .args .positions .now) (bestAt (run .args .cores) (run .args .bests .now)) (run .args .rate .0) (run .args .start) (run .args .r))
-            (run .args .start) (run .args .r) n (λ k few. c .before .before .loop .inv .2 (run .args .r) k (le-refl (run .args .r)) (omega arith)) g))
-            (gaps-fit (run .args .cores) (run .args .rate .0) (run .args .start) (run .args .m) (run .args .positions .now) (run .args .bests .now)
-            (run .pre .0) (run .args .r) n (run .pre .1 .1 .0) (omega arith) g bound),
+        gaps-fit (run .args .cores) (run .args .positions .now) (run .args .bests .now) rows (run .args .start) (run .args .r) (run .args .m) n
+            (run .pre .0 .bounded)
+            (filled-low (run .args .cores) (run .args .rate .0) (run .args .start) (run .args .m) (run .args .positions .now) (run .args .bests .now)
+            (run .pre .0) rows (run .args .r) (omega (arith, run .pre .1 .1 .0)) (c .before .before .loop .inv .2))
+            (omega arith) (run .pre .0 .few) (omega (arith, low (c .before))) (omega (arith, inside-list (c .before))),
       ),
     )
 

@@ -3,14 +3,14 @@
 -- What the stores come to is in Writing, what keeps the sums within 64 bits in Sums. Assumes nothing.
 use Prim.Native.Nat.{ℕ, _+_, _*_, _<_}
 use mathlib.Core.Path.{refl, _∙_}
-use native.Mathlib.Nat.{sub-le, le-trans}
+use native.Mathlib.Nat.{le-refl, sub-le, le-trans}
 use native.Mathlib.Omega.{arith}
 use lib.ListN.{length-set}
 use borrow.Author.Needs.{needs}
 use borrow.Fn.Kinds.{In}
 use borrow.Fn.PlainCycle.{Measures, is, falls, and}
 use Rattle.optimum.proofs.Recurrence.{islands-parted}
-use Rattle.planner.proofs.Sums.{run-fits, filled-low, gaps-fit}
+use Rattle.planner.proofs.Fitting.{run-fits, filled-low, gaps-fit}
 use Rattle.planner.proofs.Writing.{found-within, none-written, lowest-written, member-written, run-written}
 use Rattle.planner.proofs.write.write_gaps.Reads as write-gaps
 use Rattle.planner.proofs.write.write_gaps.Kinds as write-gaps-kinds
@@ -89,8 +89,8 @@ write-gaps-least-gap-requires t c κs =
       (p .0 .square, p .1 .1 .1 .1 .0),
       (
         (p .0 .some-core, omega arith, omega arith, omega (arith, p .0 .few-places)),
-        gaps-fit (s .args .cores) (s .args .positions .now) (s .args .bests .now) (s .args .below .start) (s .args .rows .now) (s .args .r)
-            (s .args .below .islands) (p .1 .1 .0) (p .1 .1 .1 .1 .1 .0) (omega arith) (omega arith) (omega arith) (p .1 .1 .1 .1 .1 .1 .3),
+        gaps-fit (s .args .cores) (s .args .positions .now) (s .args .bests .now) (s .args .rows .now) (s .args .below .start) _ _ _ (p .1 .1 .0)
+            (λ k n hk hn. p .1 .1 .1 .1 .1 .0 k n (omega arith) hn) (le-refl _) (omega arith) (omega arith) (omega arith),
       ),
     )
 
@@ -215,7 +215,7 @@ write-run-fill-rows-requires : (t : ℕ) → write-run-lts.Need-fill-rows-requir
 write-run-fill-rows-requires t c κs =
     let s = c .before .before .before .before .before .before .before in
     let p = s .pre .1 in (
-      run-fits (s .args .cores) (s .args .positions .now) (s .args .bests .now) (s .args .run .start) (s .args .rates .now)
+      run-fits (s .args .cores) (s .args .positions .now) (s .args .bests .now) (s .args .rates .now) (s .args .run .start)
           (s .args .run .islands) _ (p .0) (p .1 .0) (p .1 .1 .0) (omega arith) (omega arith) (p .1 .1 .1 .1 .1),
       refl,
     )
@@ -235,7 +235,7 @@ write-run-write-gaps-requires t c κs =
     let p = s .pre .1 in
     let parts = islands-parted (s .args .run .islands) 1 (s .args .cores) (omega arith) in
     let rows = c .before .before .before .fill-rows in
-    let fits = run-fits (s .args .cores) (s .args .positions .now) (s .args .bests .now) (s .args .run .start) (s .args .rates .now)
+    let fits = run-fits (s .args .cores) (s .args .positions .now) (s .args .bests .now) (s .args .rates .now) (s .args .run .start)
     (s .args .run .islands) _ (p .0) (p .1 .0) (p .1 .1 .0) (omega arith) (omega arith) (p .1 .1 .1 .1 .1) in (
       omega (arith, s .pre .0),
       (
@@ -249,7 +249,7 @@ write-run-write-gaps-requires t c κs =
               (
                 search needs,
                 (
-                  filled-low _ _ _ _ (rows .last .1 .1 .0) _ _ _ fits (omega arith) (rows .ensures),
+                  filled-low _ _ _ _ _ _ fits (rows .last .1 .1 .0) _ (omega arith) (rows .ensures),
                   (omega arith, omega arith, omega arith, omega (arith, parts)),
                 ),
               ),
