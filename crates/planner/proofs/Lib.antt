@@ -1,5 +1,3 @@
-pub mod Products
-pub mod Answers
 pub mod Charges
 pub mod Filled
 pub mod LevelBytes

@@ -9,7 +9,7 @@ use mathlib.Core.List.{List}
 use lib.ListN.{length}
 use Rattle.model.specs.Job.{Job}
 use Rattle.model.specs.Refusals.{Tried, loadConditions, roomConditions}
-use Rattle.planner.specs.Judged.{tableOf}
+use Rattle.table.specs.Judged.{tableOf}
 
 abbrev pub jobOf : ℕ → ℕ → ℕ → List ℕ → List ℕ → List ℕ → Job
 jobOf islands cores power frequencies powers loads =

@@ -1,4 +1,3 @@
-pub mod Judged
 pub mod Given
 pub mod Positions
 pub mod Square

@@ -3,5 +3,4 @@ mod bytes;
 mod positions;
 mod refuse;
 mod search;
-pub mod table;
 mod write;

@@ -1,17 +1,17 @@
 // The positions of a board: the loads behind the padding, the level of each, and what an island is charged whose heaviest load
 // stands there.
-use super::table::cost;
-use super::table::level;
+use table::level;
+use units::Femtojoules;
 use units::Kilohertz;
 use units::Microwatts;
 ghost use mathlib.Core.Path.{_≡_};
 ghost use mathlib.Core.List.{_++_};
-ghost use Prim.Native.Nat.{_-_, _<_, _≤_};
+ghost use Prim.Native.Nat.{_-_, _*_, _<_, _≤_, _^_};
 ghost use lib.ListN.{length, take};
-ghost use Rattle.model.specs.Limits.{most-levels};
+ghost use Rattle.model.specs.Limits.{million, most-levels};
 ghost use Rattle.model.specs.Table.{WellShaped, WellRanged};
-ghost use Rattle.model.specs.Level.{cost};
-ghost use Rattle.planner.specs.Judged.{tableOf};
+ghost use Rattle.model.specs.Level.{roundedUp, cost};
+ghost use Rattle.table.specs.Judged.{tableOf};
 ghost use Rattle.planner.specs.Positions.{Looked, Costed, Below};
 
 // The loads at the end of the positions; those in front keep their values.
@@ -38,6 +38,16 @@ pub(crate) fn look_up(frequencies: &[u32], positions: &[u64], steps: &mut [u8])
         steps[k] = level(frequencies, Kilohertz(positions[k])) as u8;
         k += 1;
     }
+}
+
+// The cost of a level: the power over the frequency in femtojoules per cycle, rounded up.
+fn cost(frequency: Kilohertz, power: Microwatts) -> Femtojoules
+    requires { ⌜ (0 < frequency .0) × (frequency .0 < 2 ^ 32) ⌝ }
+    ensures { λ r. ⌜ r .0 ≡ roundedUp (power .0 * million) (frequency .0) ⌝ }
+{
+    let f = frequency.0;
+    let femtojoules = (power.0 as u64) * 1000000;
+    Femtojoules((femtojoules + (f - 1)) / f)
 }
 
 // The cost of a level, by its number.

@@ -1,10 +1,10 @@
 // Whether a job is refused, and by which cause: the nine are tried in their order. Nothing is written here.
 // Assumes nothing.
-use super::table::Judged;
-use super::table::judge;
 use board::Board;
 use board::NewBoard;
 use model::Refusal;
+use table::Judged;
+use table::judge;
 use units::Kilohertz;
 use units::Microwatts;
 ghost use mathlib.Core.List.{_++_};
@@ -12,7 +12,7 @@ ghost use Prim.Native.Nat.{_<_, _≤_};
 ghost use lib.ListN.{length};
 ghost use Rattle.model.specs.Tells.{Tells};
 ghost use Rattle.model.specs.Refusals.{Tried, FitSizes, Ordered, lastOf, sizeConditions, tableConditions, powerConditions, conditions};
-ghost use Rattle.planner.specs.Judged.{tableOf, numberOf};
+ghost use Rattle.table.specs.Judged.{tableOf, numberOf};
 ghost use Rattle.planner.specs.Given.{jobOf, LoadsTried, RoomTried};
 
 // Whether no load is below the one before it.

@@ -3,7 +3,7 @@
 // src/. A name says what is wrong; `at` is the last value that passes, `past` the first that does not.
 use libc::STDOUT_FILENO;
 use model::Refusal;
-use planner::table::Judged;
+use table::Judged;
 use units::Kilohertz;
 
 fn cause(refusal: Refusal) -> u64 {
@@ -21,7 +21,7 @@ fn cause(refusal: Refusal) -> u64 {
 }
 
 fn show(name: &[u8], frequencies: &[u32], powers: &[u32]) {
-    let number = match planner::table::judge(frequencies, powers) {
+    let number = match table::judge(frequencies, powers) {
         Judged::Sound => 0,
         Judged::Refused(refusal) => cause(refusal),
     };
@@ -137,7 +137,7 @@ fn slopes() {
 fn show_level(load: u64) {
     io::print_decimal(STDOUT_FILENO, load);
     io::write_all(STDOUT_FILENO, b",");
-    let level = planner::table::level(&[100000u32, 200000, 400000], Kilohertz(load));
+    let level = table::level(&[100000u32, 200000, 400000], Kilohertz(load));
     io::print_decimal(STDOUT_FILENO, level as u64);
     io::write_all(STDOUT_FILENO, b"\n");
 }

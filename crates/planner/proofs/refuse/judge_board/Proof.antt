@@ -16,10 +16,10 @@ use Rattle.board.specs.declared.Board.{Board}
 use Rattle.board.specs.declared.NewBoard.{NewBoard}
 use Rattle.board.specs.declared.NewBoard.the-variants.{Made, Refused}
 use Rattle.board.specs.NewBoard.{BoardAnswer, numberOf}
-use Rattle.planner.specs.declared.table.Judged.{Judged}
-use Rattle.planner.specs.declared.table.Judged.the-variants as judged
-use Rattle.planner.specs.Judged as answer
-use Rattle.planner.proofs.Answers.{answer-refused, answer-sound}
+use Rattle.table.specs.declared.Judged.{Judged}
+use Rattle.table.specs.declared.Judged.the-variants as judged
+use Rattle.table.specs.Judged as answer
+use Rattle.table.proofs.Answers.{answer-refused, answer-sound}
 use Rattle.planner.proofs.refuse.judge_board.Statement.{statement}
 use Rattle.planner.proofs.refuse.judge_board.Tie as tie
 

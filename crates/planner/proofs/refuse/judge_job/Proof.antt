@@ -8,7 +8,7 @@ use Rattle.model.specs.Job.{Job}
 use Rattle.model.specs.Refusals.{Condition, sizeConditions, tableConditions, powerConditions, loadConditions, roomConditions}
 use Rattle.model.proofs.Trying.{AllHold, tried-onward}
 use Rattle.planner.specs.Given.{jobOf}
-use Rattle.planner.proofs.Answers.{answer-refused, answer-sound}
+use Rattle.table.proofs.Answers.{answer-refused, answer-sound}
 use Rattle.planner.proofs.refuse.judge_job.Statement.{statement}
 use Rattle.planner.proofs.refuse.judge_job.Tie as tie
 
