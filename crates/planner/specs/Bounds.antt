@@ -15,7 +15,7 @@ use mathlib.Core.Path.{_≡_}
 use mathlib.Core.List.{List}
 use lib.ListN.{length, getD}
 use Rattle.model.specs.Limits.{most-frequency, most-cores, most-islands, most-places}
-use Rattle.planner.specs.Square.{bestAt}
+use Rattle.planner.specs.Square.{squareSize, bestAt}
 
 abbrev pub most-charge : ℕ
 most-charge = 10000000000
@@ -39,7 +39,7 @@ pub record Sized (Q : ℕ) (ws bests : List ℕ) : Type 0 where
   pub some-core : 0 < Q
   pub few-cores : Q ≤ most-cores
   pub few-places : length ws ≤ most-places
-  pub square : length bests ≡ 4096
+  pub square : length bests ≡ squareSize
   pub light : Light ws
 
 pub record Cheap (ws rates : List ℕ) : Type 0 where

@@ -1,4 +1,5 @@
 -- The table of bests: a square of 64 by 64, where the best total of a run stands by its first and its last position.
+--     squareSize the entries of the square
 --     place      where the best of a run of some islands that begins at i stands
 --     bestAt     what the table has for a run; a run of no islands costs nothing and has no place
 --     runCost    the total of a run of m + 1 islands, by what a table has for shorter runs
@@ -10,11 +11,15 @@ use Prim.Native.Nat.{ℕ, zero, suc, _+_, _-_, _*_, _≤_}
 use mathlib.Core.Path.{_≡_}
 use mathlib.Core.List.{List}
 use lib.ListN.{length, getD}
+use Rattle.model.specs.Limits.{most-places}
 use Rattle.optimum.specs.Best.{itself, topLoad, fill, best}
 use Rattle.planner.specs.Positions.{Charged}
 
+abbrev pub squareSize : ℕ
+squareSize = 4096
+
 unfoldable pub place : ℕ → ℕ → ℕ → ℕ
-place Q i v = i * 64 + (i + v * Q - 1)
+place Q i v = i * most-places + (i + v * Q - 1)
 
 unfoldable pub bestAt : ℕ → List ℕ → ℕ → ℕ → ℕ
 bestAt Q bests i zero = 0

@@ -1,16 +1,20 @@
 // The best totals of all runs: a square by first and last position, filled by the recurrence from the shortest runs up.
 // A run begins at a position, counted from 0, and has whole islands; its last position holds the heaviest load of its top island.
+use board::Board;
 use units::Femtojoules;
 use units::Kilohertz;
 use units::Picowatts;
 ghost use mathlib.Core.Path.{_≡_};
 ghost use Prim.Native.Nat.{suc, _+_, _-_, _*_, _≤_, _<_, _^_};
 ghost use lib.ListN.{length, getD};
-ghost use Rattle.model.specs.Limits.{most-islands};
+ghost use Rattle.model.specs.Limits.{most-islands, most-cores, most-places};
 ghost use Rattle.optimum.specs.Best.{itself, first, least, gapCost};
-ghost use Rattle.planner.specs.Square.{place, bestAt, runCost, Grown, Found};
+ghost use Rattle.planner.specs.Square.{squareSize, place, bestAt, runCost, Grown, Found};
 ghost use Rattle.planner.specs.Rows.{rowAt, Filling};
 ghost use Rattle.planner.specs.Bounds.{most-own, AllBelow, Sized, Cheap, Bounded, Fits};
+
+// A row of figures has one for each number of islands in the gaps, from 0.
+const COLUMNS: usize = Board::ISLANDS as usize;
 
 // A gap below a member: the islands in it, and what it costs with all below it.
 pub(crate) struct Gap {
@@ -20,16 +24,16 @@ pub(crate) struct Gap {
 
 // The place of a run of some islands in the table of bests: by its first and its last position.
 fn place(cores: usize, start: usize, islands: usize) -> usize
-    requires { ⌜ (0 < islands * cores) × (start + islands * cores ≤ 64) ⌝ }
+    requires { ⌜ (0 < islands * cores) × (start + islands * cores ≤ most-places) ⌝ }
     ensures { λ r. ⌜ r ≡ place cores start islands ⌝ }
 {
-    start * 64 + (start + islands * cores - 1)
+    start * Board::PLACES + (start + islands * cores - 1)
 }
 
 // What the table has for a run. A run of no islands costs nothing and has no place.
 pub(crate) fn best_at(bests: &[u64], cores: usize, start: usize, islands: usize) -> u64
-    requires { ⌜ length (now bests) ≡ 4096 ⌝ }
-    requires { ⌜ (0 < cores) × (start + islands * cores ≤ 64) ⌝ }
+    requires { ⌜ length (now bests) ≡ squareSize ⌝ }
+    requires { ⌜ (0 < cores) × (start + islands * cores ≤ most-places) ⌝ }
     ensures { λ r. ⌜ r ≡ bestAt cores (now (bests .entry)) start islands ⌝ }
 {
     if islands < 1 {
@@ -65,13 +69,13 @@ fn gap_cost(
     m: usize,
     g: usize,
 ) -> u64
-    requires { ⌜ (length (now bests) ≡ 4096) × (length (now rows) ≡ 64) ⌝ }
-    requires { ⌜ (0 < cores) × (r < 8) × (m < most-islands) × (g ≤ m) × (start + (m * cores + suc r) ≤ 64) ⌝ }
+    requires { ⌜ (length (now bests) ≡ squareSize) × (length (now rows) ≡ most-places) ⌝ }
+    requires { ⌜ (0 < cores) × (r < most-cores) × (m < most-islands) × (g ≤ m) × (start + (m * cores + suc r) ≤ most-places) ⌝ }
     requires { ⌜ gapCost cores (bestAt cores (now bests)) (rowAt (now rows) r) start r m g < 2 ^ 64 ⌝ }
     ensures { λ c. ⌜ c ≡ gapCost cores (bestAt cores (now (bests .entry))) (rowAt (now (rows .entry)) r) start r m g ⌝ }
 {
     let left = m - g;
-    best_at(bests, cores, start + (left * cores + (r + 1)), g) + rows[r * 8 + left]
+    best_at(bests, cores, start + (left * cores + (r + 1)), g) + rows[r * COLUMNS + left]
 }
 
 // The smallest gap that costs least.
@@ -83,8 +87,8 @@ pub(crate) fn least_gap(
     r: usize,
     m: usize,
 ) -> Gap
-    requires { ⌜ (length (now bests) ≡ 4096) × (length (now rows) ≡ 64) ⌝ }
-    requires { ⌜ (0 < cores) × (r < 8) × (m < most-islands) × (start + (m * cores + suc r) ≤ 64) ⌝ }
+    requires { ⌜ (length (now bests) ≡ squareSize) × (length (now rows) ≡ most-places) ⌝ }
+    requires { ⌜ (0 < cores) × (r < most-cores) × (m < most-islands) × (start + (m * cores + suc r) ≤ most-places) ⌝ }
     requires { ⌜ AllBelow (2 ^ 64) m (gapCost cores (bestAt cores (now bests)) (rowAt (now rows) r) start r m) ⌝ }
     ensures { λ c. ⌜ c .islands ≡ first m (gapCost cores (bestAt cores (now (bests .entry))) (rowAt (now (rows .entry)) r) start r m) ⌝ }
     ensures { λ c. ⌜ c .cost ≡ least m (gapCost cores (bestAt cores (now (bests .entry))) (rowAt (now (rows .entry)) r) start r m) ⌝ }
@@ -114,7 +118,7 @@ fn lowest_row(
     m: usize,
 )
     requires { ⌜ Fits cores (rate .0) start m (now positions) (now bests) ⌝ }
-    requires { ⌜ length (now rows) ≡ 64 ⌝ }
+    requires { ⌜ length (now rows) ≡ most-places ⌝ }
     ensures { λ _. ⌜ Filling cores (now (positions .entry)) (bestAt cores (now (bests .entry))) (rate .0) start (now (rows .exit)) 0 m ⌝ }
 {
     let mut n = 0;
@@ -141,7 +145,7 @@ fn next_row(
     m: usize,
 )
     requires { ⌜ Fits cores (rate .0) start m (now positions) (now bests) ⌝ }
-    requires { ⌜ length (now rows) ≡ 64 ⌝ }
+    requires { ⌜ length (now rows) ≡ most-places ⌝ }
     requires { ⌜ suc r < cores ⌝ }
     requires { ⌜ Filling cores (now positions) (bestAt cores (now bests)) (rate .0) start (now rows) r m ⌝ }
     ensures { λ _. ⌜ Filling cores (now (positions .entry)) (bestAt cores (now (bests .entry))) (rate .0) start (now (rows .exit)) (suc r) m ⌝ }
@@ -149,7 +153,7 @@ fn next_row(
     let mut n = 0;
     while n <= m {
         let gap = least_gap(bests, rows, cores, start, r, n);
-        rows[(r + 1) * 8 + n] = with_member(
+        rows[(r + 1) * COLUMNS + n] = with_member(
             positions,
             start + (n * cores + (r + 1)),
             rate,
@@ -170,7 +174,7 @@ pub(crate) fn fill_rows(
     m: usize,
 )
     requires { ⌜ Fits cores (rate .0) start m (now positions) (now bests) ⌝ }
-    requires { ⌜ length (now rows) ≡ 64 ⌝ }
+    requires { ⌜ length (now rows) ≡ most-places ⌝ }
     ensures { λ _. ⌜ Filling cores (now (positions .entry)) (bestAt cores (now (bests .entry))) (rate .0) start (now (rows .exit)) (cores - 1) m ⌝ }
 {
     lowest_row(bests, positions, rows, cores, start, rate, m);
@@ -204,7 +208,7 @@ fn run_cost(
 ) -> u64
     requires { ⌜ Fits cores (getD (now rates) (start + (m * cores + (cores - 1))) 0) start m (now positions) (now bests) ⌝ }
     requires { ⌜ (length (now rates) ≡ length (now positions)) × (own .0 ≤ most-own) ⌝ }
-    requires { ⌜ length (now rows) ≡ 64 ⌝ }
+    requires { ⌜ length (now rows) ≡ most-places ⌝ }
     ensures { λ r. ⌜ r ≡ runCost cores (own .0) (now (positions .entry)) (now (rates .entry)) (bestAt cores (now (bests .entry))) start m ⌝ }
 {
     let last = start + (m * cores + (cores - 1));
@@ -217,7 +221,7 @@ fn run_cost(
         Femtojoules(rates[last]),
         m,
     );
-    by_itself(own, Kilohertz(positions[last])).0 + rows[(cores - 1) * 8 + m]
+    by_itself(own, Kilohertz(positions[last])).0 + rows[(cores - 1) * COLUMNS + m]
 }
 
 // All runs of m + 1 islands, added to a table that has the shorter ones.
@@ -233,7 +237,7 @@ fn runs_of(
     requires { ⌜ Sized cores (now positions) (now bests) ⌝ }
     requires { ⌜ Cheap (now positions) (now rates) ⌝ }
     requires { ⌜ (own .0 ≤ most-own) × (m < most-islands) ⌝ }
-    requires { ⌜ length (now rows) ≡ 64 ⌝ }
+    requires { ⌜ length (now rows) ≡ most-places ⌝ }
     requires { ⌜ Bounded cores (now positions) (now bests) m ⌝ }
     ensures { λ _. ⌜ Grown cores (own .0) (now (positions .entry)) (now (rates .entry)) (now (bests .entry)) (now (bests .exit)) m ⌝ }
 {
@@ -261,7 +265,7 @@ pub(crate) fn search(
     ensures { λ _. ⌜ Found cores (own .0) (now (positions .entry)) (now (rates .entry)) (now (bests .exit)) islands ⌝ }
     ensures { λ _. ⌜ Bounded cores (now (positions .entry)) (now (bests .exit)) islands ⌝ }
 {
-    let mut rows = [0u64; 64];
+    let mut rows = [0u64; Board::PLACES];
     let mut m = 0;
     while m < islands {
         runs_of(bests, positions, rates, &mut rows, cores, own, m);

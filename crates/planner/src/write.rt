@@ -3,11 +3,12 @@
 // difference.
 use super::search::fill_rows;
 use super::search::least_gap;
+use board::Board;
 use units::Femtojoules;
 ghost use mathlib.Core.Path.{_≡_};
 ghost use Prim.Native.Nat.{suc, _+_, _*_, _≤_, _<_};
 ghost use lib.ListN.{length};
-ghost use Rattle.model.specs.Limits.{most-islands};
+ghost use Rattle.model.specs.Limits.{most-islands, most-places};
 ghost use Rattle.planner.specs.Bounds.{Sized, Cheap, Bounded};
 ghost use Rattle.planner.specs.Written.{Low, RunWritten, GapsWritten};
 
@@ -43,7 +44,7 @@ pub(crate) fn write_run(
     }
     let m = islands - 1;
     let last = start + (m * cores + (cores - 1));
-    let mut rows = [0u64; 64];
+    let mut rows = [0u64; Board::PLACES];
     fill_rows(
         bests,
         positions,
@@ -86,7 +87,7 @@ fn write_gaps(
     requires { ⌜ Cheap (now positions) (now rates) ⌝ }
     requires { ⌜ Bounded cores (now positions) (now bests) (below .islands) ⌝ }
     requires { ⌜ length (now full) ≡ length (now positions) ⌝ }
-    requires { ⌜ length (now rows) ≡ 64 ⌝ }
+    requires { ⌜ length (now rows) ≡ most-places ⌝ }
     requires { ⌜ Low (now rows) r (below .islands) ⌝ }
     requires { ⌜ (below .base + below .islands < most-islands) × (top ≤ most-islands) × (r < cores) × (below .start + (below .islands * cores + suc r) ≤ length (now positions)) ⌝ }
     ensures { λ _. ⌜ GapsWritten cores (now (positions .entry)) (now (rates .entry)) (now (bests .entry)) (now (full .entry)) (now (full .exit)) (now (rows .entry)) top (below .start) (below .base) r (below .islands) ⌝ }
