@@ -7,3 +7,6 @@ pub mod Fitting
 pub mod Growing
 pub mod Stores
 pub mod Writing
+pub mod Solving
+pub mod Laying
+pub mod Handing

@@ -4,3 +4,4 @@ pub mod Square
 pub mod Rows
 pub mod Bounds
 pub mod Written
+pub mod Settled

@@ -1,5 +1,6 @@
 // The planner: one job in, one plan out.
 mod bytes;
+pub mod plan;
 mod positions;
 mod refuse;
 mod search;

@@ -1,0 +1,42 @@
+-- What is settled before anything is written into the lent buffers.
+--     Carried    every load has a level that is fast enough
+--     Solved     the least total of the whole board and its full plan, for every charge that the charges of the positions are
+--     Leveled    a list of level bytes begins with those that the islands and the levels of the loads give, whatever the job's table
+--     planBytes, levelBytes    what the two lent buffers then hold: what is written, and behind it what they held
+-- Assumes nothing.
+use Prim.Native.Nat.{ℕ, _<_}
+use mathlib.Core.Path.{_≡_}
+use mathlib.Core.List.{List, _++_}
+use lib.ListN.{length, getD, drop}
+use Rattle.model.specs.Table.{Table}
+use Rattle.model.specs.Job.{Job}
+use Rattle.model.specs.Power.{levels}
+use Rattle.model.specs.Plan.{shown}
+use Rattle.model.specs.Placement.{FastEnough}
+use Rattle.optimum.specs.Best.{best}
+use Rattle.optimum.specs.Chosen.{planRun}
+use Rattle.optimum.specs.OfJob.{planOf}
+use Rattle.planner.specs.Positions.{Looked, Charged}
+
+abbrev pub Carried : Table → List ℕ → Type 0
+Carried t ws = (k : ℕ) → k < length ws → FastEnough t (getD ws k 0)
+
+abbrev pub Solved : ℕ → ℕ → List ℕ → List ℕ → ℕ → ℕ → List ℕ → Type 0
+Solved Q own ws rates v total full =
+    (rate : ℕ → ℕ)
+    → Charged rate ws rates
+    → (total ≡ best Q own rate ws 0 v) × (full ≡ planRun Q own rate ws 0 0 v)
+
+abbrev pub Leveled : List ℕ → List ℕ → List ℕ → ℕ → List ℕ → List ℕ → Type 0
+Leveled ws plan steps islands before after =
+    (job : Job)
+    → job .loads ≡ ws
+    → job .islands ≡ islands
+    → Looked (job .table .frequencies) ws steps
+    → after ≡ levels job plan ++ drop islands before
+
+abbrev pub planBytes : Job → List ℕ → List ℕ
+planBytes job plan₀ = shown job (planOf job) ++ drop (length (job .loads)) plan₀
+
+abbrev pub levelBytes : Job → List ℕ → List ℕ
+levelBytes job levels₀ = levels job (shown job (planOf job)) ++ drop (job .islands) levels₀
