@@ -6,6 +6,7 @@ use super::positions::charge_all;
 use super::positions::lay_out;
 use super::positions::look_up;
 use super::refuse::judge_job;
+use super::search::SQUARE;
 use super::search::best_at;
 use super::search::search;
 use super::write::Run;
@@ -37,9 +38,6 @@ ghost use Rattle.planner.specs.Settled.{Carried, Solved, Leveled, planBy
 
 // A level number for each island.
 const LEVELS: usize = Board::ISLANDS as usize;
-
-// The table of bests has a place for every first and last position.
-const SQUARE: usize = Board::PLACES * Board::PLACES;
 
 // The least total of the board, and its full plan.
 fn solve(

@@ -13,6 +13,9 @@ ghost use Rattle.planner.specs.Square.{squareSize, place, bestAt, runCos
 ghost use Rattle.planner.specs.Rows.{rowAt, Filling};
 ghost use Rattle.planner.specs.Bounds.{most-own, AllBelow, Sized, Cheap, Bounded, Fits};
 
+// The table of bests has a place for every first and every last position.
+pub(crate) const SQUARE: usize = Board::PLACES * Board::PLACES;
+
 // A row of figures has one for each number of islands in the gaps, from 0.
 const COLUMNS: usize = Board::ISLANDS as usize;
 
