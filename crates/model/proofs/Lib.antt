@@ -4,5 +4,6 @@ pub mod Levels
 pub mod Charge
 pub mod Active
 pub mod Trying
+pub mod Deciding
 pub mod Telling
 pub mod Shown

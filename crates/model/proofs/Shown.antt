@@ -1,4 +1,5 @@
 -- What the definitions say of the board cases, by computation.
+--     case-numbers       the number that the first eight conditions give is the answer that 01 gives, in every case
 --     accepted-totals    the total of the plan that 01 gives is the total that 01 gives, in every accepted case
 --     accepted-levels    and its levels are those that 01 gives
 --     sorted-filling     "Filling islands in sorted order. Case 1 then totals 255000000000."
@@ -20,6 +21,11 @@ use Rattle.model.specs.Power.{each, held, heaviest, sum, active, drawn, 
 use Rattle.model.specs.Exact.{product, others, exactCost, scale, exact}
 use Rattle.model.specs.TieRule.{Leads}
 use Rattle.model.specs.Cases.{case-1, case-9, case-13, cases, accepted, third}
+use Rattle.model.proofs.Deciding.{job-number}
+
+pub case-numbers : map (λ c. job-number (c .job) .0) cases ≡ map (λ c. c .answer) cases
+unfolding job-number
+case-numbers = refl
 
 pub accepted-totals : map (λ c. total (c .job) (c .plan)) (accepted cases) ≡ map (λ c. c .reported) (accepted cases)
 unfolding lowest levelOf roundedUp cost charge each held heaviest sum active drawn power own total

@@ -2,12 +2,16 @@
 --     tried-one        two numbers that are the first are equal
 --     tried-refused    what is refused by a list is refused by each longer one, by the same number
 --     tried-onward     where a list's conditions all hold, what follows it decides
---     all-hold         0 says that they all hold, where each number is above 0
+--     tried-before     where what follows it all holds, the list decides
+--     all-hold, hold-all    0 says that they all hold, where each number is above 0
+--     tried-first, first-tried    a number above 0 is that of the first cause
+--     tried-within     no number is above those of the list
 --     cause-one        two causes with one number are equal
 --     cause-some       no cause has the number 0
+--     planned-one      two answers with one number and one total are equal
 -- Assumes nothing.
-use Prim.Native.Nat.{ℕ, _-_, _<_}
-use mathlib.Core.Path.{_≡_, refl, sym, ap, _∙_}
+use Prim.Native.Nat.{ℕ, _-_, _≤_, _<_}
+use mathlib.Core.Path.{_≡_, refl, sym, ap, _∙_, subst}
 use mathlib.Core.Logic.{inl, inr}
 use mathlib.Core.List.{List, [], _∷_, _++_}
 use native.Mathlib.Omega.{arith}
@@ -15,7 +19,10 @@ use lib.Dec.{lit<}
 use lib.ListN.{getD}
 use Rattle.model.specs.declared.Refusal.{Refusal}
 use Rattle.model.specs.declared.Refusal.the-variants.{Sizes, Levels, Ranges, Slopes, IslandPower, Count, Order, Speed, Buffers}
-use Rattle.model.specs.Refusals.{Condition, Tried, causeNumber}
+use Rattle.model.specs.declared.Planned.{Planned}
+use Rattle.model.specs.declared.Planned.the-variants.{Total, Refused}
+use Rattle.model.specs.Answer.{numberOf, totalOf}
+use Rattle.model.specs.Refusals.{Condition, Tried, AllHold, FirstCause, causeNumber}
 
 pub tried-one : (cs : List Condition) (m n : ℕ) → Tried cs m → Tried cs n → m ≡ n
 tried-one [] m n p q = p ∙ sym q
@@ -28,11 +35,6 @@ pub tried-refused : (cs ds : List Condition) (n : ℕ) → 0 < n → Tried cs n 
 tried-refused [] ds n some none = absurd (omega arith)
 tried-refused (c ∷ cs) ds n some (inl refused) = inl refused
 tried-refused (c ∷ cs) ds n some (inr passed) = inr (passed .0, tried-refused cs ds n some (passed .1))
-
--- all conditions of a list hold
-abbrev pub AllHold : List Condition → Type 0
-AllHold [] = Unit {0}
-AllHold (c ∷ cs) = c .holds × AllHold cs
 
 -- each has a number above 0, so that 0 is left for "none is refused"
 abbrev pub Numbers : List Condition → Type 0
@@ -47,6 +49,54 @@ all-hold (c ∷ cs) some (inr passed) = (passed .0, all-hold cs (some .1) (passe
 pub tried-onward : (cs ds : List Condition) (n : ℕ) → AllHold cs → Tried ds n → Tried (cs ++ ds) n
 tried-onward [] ds n held tried = tried
 tried-onward (c ∷ cs) ds n held tried = inr (held .0, tried-onward cs ds n (held .1) tried)
+
+pub hold-all : (cs : List Condition) → AllHold cs → Tried cs 0
+hold-all [] held = refl
+hold-all (c ∷ cs) held = inr (held .0, hold-all cs (held .1))
+
+pub tried-before : (cs ds : List Condition) (n : ℕ) → AllHold ds → Tried cs n → Tried (cs ++ ds) n
+tried-before [] ds n held none = subst (λ (k : ℕ). Tried ds k) (sym none) (hold-all ds held)
+tried-before (c ∷ cs) ds n held (inl refused) = inl refused
+tried-before (c ∷ cs) ds n held (inr passed) = inr (passed .0, tried-before cs ds n held (passed .1))
+
+pub tried-first : (cs : List Condition) (n : ℕ) → 0 < n → Tried cs n → FirstCause cs n
+tried-first [] n some none = absurd (omega arith)
+tried-first (c ∷ cs) n some (inl refused) =
+    record {
+      before = [];
+      cause = c;
+      after = cs;
+      in-order = refl;
+      all-before = tt;
+      applies = refused .0;
+      its-number = refused .1;
+    }
+tried-first (c ∷ cs) n some (inr passed) =
+    let rest : FirstCause cs n = tried-first cs n some (passed .1) in
+    record {
+      before = c ∷ rest .before;
+      cause = rest .cause;
+      after = rest .after;
+      in-order = ap (λ (ds : List Condition). c ∷ ds) (rest .in-order);
+      all-before = (passed .0, rest .all-before);
+      applies = rest .applies;
+      its-number = rest .its-number;
+    }
+
+pub first-tried : (cs : List Condition) (n : ℕ) → FirstCause cs n → Tried cs n
+first-tried cs n first =
+    subst (λ (ds : List Condition). Tried ds n) (sym (first .in-order))
+    (tried-onward (first .before) (first .cause ∷ first .after) n (first .all-before) (inl (first .applies, first .its-number)))
+
+-- no number of the list is above a bound
+abbrev pub NumbersWithin : ℕ → List Condition → Type 0
+NumbersWithin most [] = Unit {0}
+NumbersWithin most (c ∷ cs) = (c .number ≤ most) × NumbersWithin most cs
+
+pub tried-within : (most : ℕ) (cs : List Condition) (n : ℕ) → NumbersWithin most cs → Tried cs n → n ≤ most
+tried-within most [] n within none = omega arith
+tried-within most (c ∷ cs) n within (inl refused) = omega (arith, within .0, refused .1)
+tried-within most (c ∷ cs) n within (inr passed) = tried-within most cs n (within .1) (passed .1)
 
 -- the causes in order, so that a number finds its cause again
 inOrder : List Refusal
@@ -77,3 +127,10 @@ cause-some Buffers = lit< tt
 
 pub cause-one : (c d : Refusal) → causeNumber c ≡ causeNumber d → c ≡ d
 cause-one c d same = sym (found c) ∙ ap (λ (n : ℕ). getD inOrder (n - 1) Sizes) same ∙ found d
+
+-- "a definition gives this paper's number and values for every one of its cases": these tell an answer from every other
+pub planned-one : (r s : Planned) → numberOf r ≡ numberOf s → totalOf r ≡ totalOf s → r ≡ s
+planned-one (Total p) (Total q) number totals = ap (λ (n : ℕ). Total (record { 0 = n })) totals
+planned-one (Total p) (Refused d) number totals = absurd (omega (arith, cause-some d))
+planned-one (Refused c) (Total q) number totals = absurd (omega (arith, cause-some c))
+planned-one (Refused c) (Refused d) number totals = ap Refused (cause-one c d number)

@@ -2,6 +2,8 @@
 -- 01 names is that it does not.
 --     Condition     a number, and what has to hold so that a job is not refused by it
 --     Tried         a number is that of the first condition that does not hold, or 0 where all hold
+--     AllHold       all conditions of a list hold
+--     FirstCause    the same of a number above 0, in plain words: all before it hold, and it does not
 --     sizeConditions, tableConditions, powerConditions, loadConditions, roomConditions    the rows 1; 2 to 4; 5; 6 to 8; 9
 --     conditions    the nine of a job and of the lengths of the two lent buffers
 --     causeNumber   the number of each case of the enum
@@ -26,6 +28,21 @@ pub record Condition : Type 1 where
 abbrev pub Tried : List Condition → ℕ → Type 0
 Tried [] n = n ≡ 0
 Tried (c ∷ rest) n = ((¬ (c .holds)) × (n ≡ c .number)) ⊎ ((c .holds) × Tried rest n)
+
+-- all conditions of a list hold
+abbrev pub AllHold : List Condition → Type 0
+AllHold [] = Unit {0}
+AllHold (c ∷ cs) = c .holds × AllHold cs
+
+-- the first of a list that does not hold, and its number
+pub record FirstCause (cs : List Condition) (n : ℕ) : Type 1 where
+  pub before : List Condition
+  pub cause : Condition
+  pub after : List Condition
+  pub in-order : cs ≡ before ++ (cause ∷ after)
+  pub all-before : AllHold before
+  pub applies : ¬ (cause .holds)
+  pub its-number : n ≡ cause .number
 
 -- refused by 1: "V or Q is 0 or above 8"
 pub record FitSizes (islands cores : ℕ) : Type 0 where

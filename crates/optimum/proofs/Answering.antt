@@ -1,12 +1,13 @@
 -- What an answer fixes.
 --     answer-once         two answers to one job are equal in number, total and both buffers
 --     answer-planned      a job that passes every condition has an answer, with the plan function's plan
+--     answer-kept         a job that some condition refuses has one, with its number and nothing written
 --     answer-passed       an accepted job passes every condition
 --     answer-full, answer-ruled    its full plan, which is by the rule
 --     returned-plan       the plan buffer begins with what is shown of that plan
 --     returned-total      and its total is reported
 -- Assumes nothing.
-use Prim.Native.Nat.{ℕ}
+use Prim.Native.Nat.{ℕ, _<_}
 use mathlib.Core.Path.{_≡_, refl, sym, ap, _∙_, subst}
 use mathlib.Core.List.{List, _++_}
 use native.Mathlib.Nat.{not-suc-le-zero}
@@ -86,6 +87,16 @@ module _ (job : Job) (plan₀ levels₀ : List ℕ) where
               reported-total = sym (plan-total job passed);
               level-bytes = refl;
             };
+      }
+
+  -- and so is a number above 0 with nothing written
+  pub answer-kept :
+      (n : ℕ) → 0 < n → Tried (conditions job (length plan₀) (length levels₀)) n → Answered job plan₀ levels₀ n 0 plan₀ levels₀
+  answer-kept n some tried =
+      record {
+        tried = tried;
+        refused = λ above. record { no-total = refl; plan-kept = refl; levels-kept = refl };
+        accepted = λ none. absurd (omega arith);
       }
 
   module _ (reported : ℕ) (planned leveled : List ℕ) (answer : Answered job plan₀ levels₀ 0 reported planned leveled) where

@@ -1,12 +1,10 @@
--- Examples: the shape of section 5.1 of source document 004, the accepted board cases, a crossing and a tie.
+-- Examples: the shape of section 5.1 of source document 004, a crossing and a tie. The board cases stand in BoardCases.
 --     paper-plan          "with V = 4, Q = 3 and highest positions 5, 7, 11, 12, the islands are {3,4,5}, {2,6,7}, {9,10,11}, {1,8,12}"
 --     paper-highest       these are its highest positions
 --     paper-members       and these its islands, each from the highest position down
 --     paper-run           it has the shape of a run
 --     paper-uncrossed     so it has no crossing
 --     paper-one           no other plan without a crossing has these highest positions
---     accepted-plans      the plan function gives the plan that 01 gives, in every accepted case of those to prove
---     accepted-bests      and the recurrence gives the total that 01 gives
 --     crossing-plan       two islands that take turns cross
 --     crossing-refused    so their plan is not among those without a crossing
 --     tied-uncrossed      "(a tie)", case 6: two plans without a crossing
@@ -14,23 +12,25 @@
 --     tied-members        that differ in the second member of the top island
 --     tied-taken          the plan function takes the one with the greater member
 --     tied-refused        and the tie rule refuses the other
+--     gaps-settled        "each gap is […] settled by the same rule by itself": case 1 in the gap below a top island that takes the last two
+--     gaps-dearer         a plan that settles the top island and fills this gap in order draws more
 -- Assumes nothing.
 use Prim.Native.Nat.{ℕ, zero, suc, _+_, _≤_, _<_}
 use mathlib.Core.Path.{_≡_, refl, sym, subst, _∙_}
-use mathlib.Core.List.{List, [], _∷_, map}
+use mathlib.Core.List.{List, [], _∷_, _++_, map}
 use native.Mathlib.Omega.{arith}
 use lib.Dec.{lit<}
 use lib.ListN.{getD}
 use Rattle.model.specs.Job.{Job}
 use Rattle.model.specs.Level.{lowest, levelOf, roundedUp, cost, charge}
 use Rattle.model.specs.Power.{each, held, heaviest, sum, active, drawn, power, own}
-use Rattle.model.specs.Plan.{padding, padded, shown, members, highest}
+use Rattle.model.specs.Plan.{padding, padded, members, highest}
 use Rattle.model.specs.Crossing.{Cross, NoCrossing}
 use Rattle.model.specs.TieRule.{Uncrossed, Least, Taken}
-use Rattle.model.specs.Cases.{case-6, proved, accepted}
+use Rattle.model.specs.Cases.{tableT, four, case-6}
 use Rattle.optimum.specs.Best.{itself, first, least, loadAt, topLoad, fill, gapCost, bestWithin, best}
 use Rattle.optimum.specs.Chosen.{chosen, planGaps, planWithin, planRun}
-use Rattle.optimum.specs.OfJob.{bestOf, planOf}
+use Rattle.optimum.specs.OfJob.{planOf}
 use Rattle.optimum.specs.Shape.{Run, Gaps}
 use Rattle.optimum.proofs.RunUncrossed.{run-uncrossed}
 use Rattle.optimum.proofs.HighestOne.{uncrossed-same}
@@ -97,15 +97,6 @@ paper-one plan un one two three four = uncrossed-same 3 0 4 plan paper-plan (lit
     same (suc (suc (suc zero))) low high = three
     same (suc (suc (suc (suc zero)))) low high = four
     same (suc (suc (suc (suc (suc z))))) low high = absurd (omega arith)
-
-pub accepted-plans : map (λ c. shown (c .job) (planOf (c .job))) (accepted proved) ≡ map (λ c. c .plan) (accepted proved)
-unfolding lowest levelOf roundedUp cost charge own padding padded shown itself first least loadAt topLoad fill gapCost
-    bestWithin best chosen planGaps planWithin planRun planOf
-accepted-plans = refl
-
-pub accepted-bests : map (λ c. bestOf (c .job)) (accepted proved) ≡ map (λ c. c .reported) (accepted proved)
-unfolding lowest levelOf roundedUp cost charge own padding padded itself first least loadAt topLoad fill gapCost bestWithin best bestOf
-accepted-bests = refl
 
 pub crossing-plan : Cross 1 2 (1 ∷ 2 ∷ 1 ∷ 2 ∷ [])
 crossing-plan =
@@ -174,3 +165,17 @@ tied-refused taken =
     first-member : (k : ℕ) → k < 1 → getD (members 2 1 nested) k 0 ≡ getD (members 2 1 ordered) k 0
     first-member zero within = refl
     first-member (suc k) within = absurd (omega arith)
+
+-- three islands of two cores; below two loads of 400000 stand those of case 1
+abbrev stacked : Job
+stacked = record { islands = 3; cores = 2; power = 0; table = tableT; loads = four ++ (400000 ∷ 400000 ∷ []) }
+
+pub gaps-settled : planOf stacked ≡ 2 ∷ 1 ∷ 1 ∷ 2 ∷ 3 ∷ 3 ∷ []
+unfolding lowest levelOf roundedUp cost charge own padding padded itself first least loadAt topLoad fill gapCost bestWithin best
+    chosen planGaps planWithin planRun planOf
+gaps-settled = refl
+
+pub gaps-dearer :
+    (powerOf stacked (2 ∷ 1 ∷ 1 ∷ 2 ∷ 3 ∷ 3 ∷ []) ≡ 560000000000) × (powerOf stacked (1 ∷ 1 ∷ 2 ∷ 2 ∷ 3 ∷ 3 ∷ []) ≡ 575000000000)
+unfolding lowest levelOf roundedUp cost charge each held heaviest sum active drawn power own padding padded
+gaps-dearer = (refl, refl)

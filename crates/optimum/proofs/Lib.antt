@@ -49,6 +49,8 @@ pub mod ExactPower
 pub mod DemandThree
 pub mod Passing
 pub mod Answering
+pub mod DemandOne
+pub mod BoardCases
 pub mod Returned
 pub mod Promises
 pub mod Examples

@@ -1,4 +1,5 @@
 -- What a number says of a job: the conditions that hold where it is 0, and the two that say that no placement exists.
+--     numbered           no condition has the number 0
 --     tried-passed, passed-tried    nothing is refused exactly where all hold
 --     placement-exists   of a well-formed job a placement exists exactly where count and speed allow it
 --     count-or-speed     so it is refused by 6 or 8 exactly where none exists
@@ -14,7 +15,7 @@ use Rattle.model.specs.Job.{Job}
 use Rattle.model.specs.Placement.{Placement}
 use Rattle.model.specs.Plan.{shown}
 use Rattle.model.specs.Refusals.{Tried, RoomEnough, conditions, loadConditions, roomConditions, lastOf}
-use Rattle.model.proofs.Trying.{all-hold}
+use Rattle.model.proofs.Trying.{Numbers, all-hold}
 use Rattle.optimum.specs.OfJob.{planOf}
 use Rattle.optimum.specs.Passed.{WellFormed, Passed}
 use Rattle.optimum.proofs.Placements.{placement-fits, placement-speed}
@@ -26,11 +27,12 @@ past holds (inl refused) = absurd (refused .0 holds)
 past holds (inr passed) = passed .1
 
 module _ (job : Job) (planRoom levelRoom : ℕ) where
+  pub numbered : Numbers (conditions job planRoom levelRoom)
+  numbered = (lit< tt, (lit< tt, (lit< tt, (lit< tt, (lit< tt, (lit< tt, (lit< tt, (lit< tt, (lit< tt, tt)))))))))
+
   pub tried-passed : Tried (conditions job planRoom levelRoom) 0 → Passed job × RoomEnough job planRoom levelRoom
   tried-passed tried =
-      let held =
-      all-hold (conditions job planRoom levelRoom)
-      (lit< tt, (lit< tt, (lit< tt, (lit< tt, (lit< tt, (lit< tt, (lit< tt, (lit< tt, (lit< tt, tt))))))))) tried in
+      let held = all-hold (conditions job planRoom levelRoom) numbered tried in
       let table = held .1 in
       let island = table .1 .1 .1 in
       let loads = island .1 in

@@ -7,8 +7,10 @@
 --     placements-exist    when a placement exists
 --     refused-exactly     a job otherwise well formed is refused for count or speed exactly when none does
 --     answered-once       no second answer fits a job
---     answer-exists       a job that passes every condition has one
+--     answer-always       there is one, to every job with every pair of buffers
+--     demand-1            a refusal has its stated cause and no other, and keeps everything
 --     demand-2, demand-3  what an accepted answer is worth
+--     board-cases, board-cases-once    the board cases to prove: each row is the answer to its job, and the only one
 -- Assumes nothing.
 use Prim.Native.Nat.{ℕ, _+_, _*_, _≤_, _<_}
 use mathlib.Core.Path.{_≡_}
@@ -19,16 +21,18 @@ use Rattle.model.specs.Job.{Job}
 use Rattle.model.specs.Power.{held, drawn}
 use Rattle.model.specs.Placement.{Placement}
 use Rattle.model.specs.TieRule.{Uncrossed, ByRule}
-use Rattle.model.specs.Refusals.{lastOf, RoomEnough, Tried, conditions}
+use Rattle.model.specs.Refusals.{lastOf, Tried, conditions}
 use Rattle.model.specs.Answer.{Answered}
+use Rattle.model.specs.Cases.{proved}
 use Rattle.optimum.specs.Loads.{AtMost, Sorted, NeverFalls, At}
 use Rattle.optimum.specs.Shape.{Run}
 use Rattle.optimum.specs.Best.{best}
 use Rattle.optimum.specs.Split.{Split}
 use Rattle.optimum.specs.Chosen.{planRun}
 use Rattle.optimum.specs.Fair.{Fair, over}
-use Rattle.optimum.specs.Passed.{WellFormed, Passed, returned}
-use Rattle.optimum.specs.Demands.{Demand2, Demand3, SameAnswer}
+use Rattle.optimum.specs.Passed.{WellFormed, returned}
+use Rattle.optimum.specs.Demands.{Demand1, Demand2, Demand3, SameAnswer}
+use Rattle.optimum.specs.CaseClaim.{Claimed, Only, Each}
 use Rattle.optimum.proofs.BestSplit.{best-below}
 use Rattle.optimum.proofs.FullBound.{fair-bound}
 use Rattle.optimum.proofs.RunUncrossed.{run-uncrossed}
@@ -37,7 +41,9 @@ use Rattle.optimum.proofs.RuleOne.{rule-one}
 use Rattle.optimum.proofs.BestAttained.{best-attained}
 use Rattle.optimum.proofs.ChosenRule.{chosen-rule}
 use Rattle.optimum.proofs.Passing.{placement-exists, count-or-speed}
-use Rattle.optimum.proofs.Answering.{answer-once, answer-planned}
+use Rattle.optimum.proofs.Answering.{answer-once}
+use Rattle.optimum.proofs.DemandOne.{answer-demand-1, answer-found}
+use Rattle.optimum.proofs.BoardCases.{cases-answered, cases-only}
 use Rattle.optimum.proofs.Returned.{returned-demand-2, returned-demand-3}
 
 -- Q cores to an island, the island power, a cost by heaviest load, and the loads at all positions
@@ -111,17 +117,29 @@ module _ (job : Job) where
         → SameAnswer n reported planned leveled n′ reported′ planned′ leveled′
     answered-once = answer-once job plan₀ levels₀
 
-    -- an accepted answer to every job that passes, so that what follows does not speak of nothing
-    pub answer-exists :
-        Passed job
-        → RoomEnough job (length plan₀) (length levels₀)
-        → (reported : ℕ) × (planned : List ℕ) × (leveled : List ℕ) × Answered job plan₀ levels₀ 0 reported planned leveled
-    answer-exists passed room = (_, _, _, answer-planned job plan₀ levels₀ passed room)
+    -- "Every list, table and size gets an answer"
+    pub answer-always :
+        (n : ℕ) × (reported : ℕ) × (planned : List ℕ) × (leveled : List ℕ) × Answered job plan₀ levels₀ n reported planned leveled
+    answer-always = answer-found job plan₀ levels₀
+
+    -- "Nine refusals, each for its stated cause and no other", and 0 for a job that passes: specs/Demands.antt
+    pub demand-1 :
+        (n reported : ℕ) (planned leveled : List ℕ)
+        → Answered job plan₀ levels₀ n reported planned leveled
+        → Demand1 job plan₀ levels₀ n reported planned leveled
+    demand-1 = answer-demand-1 job plan₀ levels₀
 
     module _ (reported : ℕ) (planned leveled : List ℕ) (answer : Answered job plan₀ levels₀ 0 reported planned leveled) where
-      -- what the demands say of the reported total and the returned plan: specs/Demands.antt
+      -- what demands 2 and 3 say of the reported total and the returned plan
       pub demand-2 : Demand2 job reported (returned job planned)
       demand-2 = returned-demand-2 job plan₀ levels₀ reported planned leveled answer
 
       pub demand-3 : Demand3 job reported (returned job planned)
       demand-3 = returned-demand-3 job plan₀ levels₀ reported planned leveled answer
+
+-- "Cases 1 to 12 are one list with one claim, proved from the definitions"
+pub board-cases : Each Claimed proved
+board-cases = cases-answered
+
+pub board-cases-once : Each Only proved
+board-cases-once = cases-only

@@ -1,6 +1,7 @@
 -- A sum over islands is a sum over positions.
 --     islands            the islands base + 1 to base + v, as a list
 --     weighed            the sum over the positions: each load, times a weight of its island
+--     each-length        a figure for each of v islands: v figures
 --     each-over          a sum of `each` is one over `islands`
 --     islands-once, islands-below, islands-above, islands-length    every island of the range stands there once, and no other
 --     over-same, over-sum, over-le, over-scaled    the sums of two figures that are equal, added, in order, multiplied
@@ -31,6 +32,11 @@ unfoldable pub weighed : (ℕ → ℕ) → List ℕ → List ℕ → ℕ
 weighed weight [] us = 0
 weighed weight (y ∷ a) [] = 0
 weighed weight (y ∷ a) (u ∷ us) = weight y * u + weighed weight a us
+
+pub each-length : (g : ℕ → ℕ) (base v : ℕ) → length (each g base v) ≡ v
+unfolding each
+each-length g base zero = refl
+each-length g base (suc v) = ap suc (each-length g (suc base) v)
 
 pub each-over : (g : ℕ → ℕ) (base v : ℕ) → sum (each g base v) ≡ over g (islands base v)
 unfolding each sum over islands

@@ -1,11 +1,15 @@
--- Demands 2 and 3, as they are made of an accepted job: of the total that is reported and of the plan that is returned.
+-- The three demands: the first of every answer, the second and third of an accepted job's, of the total that is reported and of the
+-- plan that is returned.
+--     Demand1       a refusal has its stated cause and no other, its number, a total of 0, and both buffers as they came
 --     Demand2       the total is the plan's, no placement's is lower, the plan has no crossing and is the one that the rule names
 --     Demand3       what the total and the plan are worth with exact fractions as costs
 --     SameAnswer    two answers with one number, one total and the same bytes in both buffers
 -- Exact powers are times the product of all the table's frequencies, and so is what is compared with them. Assumes nothing.
 use Prim.Native.Nat.{ℕ, _+_, _*_, _≤_, _<_}
 use mathlib.Core.Path.{_≡_}
+use mathlib.Core.Logic.{_↔_}
 use mathlib.Core.List.{List}
+use lib.ListN.{length}
 use Rattle.model.specs.Job.{Job}
 use Rattle.model.specs.Power.{total, workload}
 use Rattle.model.specs.Exact.{scale, exact, WholeCosts}
@@ -13,7 +17,24 @@ use Rattle.model.specs.Placement.{Placement}
 use Rattle.model.specs.Plan.{shown}
 use Rattle.model.specs.Crossing.{NoCrossing}
 use Rattle.model.specs.TieRule.{Uncrossed}
+use Rattle.model.specs.Refusals.{AllHold, FirstCause, conditions}
 use Rattle.optimum.specs.Passed.{Ruled}
+
+-- n is the number; plan₀ and levels₀ are the lent buffers as they came, planned and leveled as they are left
+pub record Demand1 (job : Job) (plan₀ levels₀ : List ℕ) (n reported : ℕ) (planned leveled : List ℕ) : Type 1 where
+  -- "Nine refusals", and 0 for none of them
+  pub nine : n ≤ 9
+  -- "each for its stated cause": of the nine conditions in their order all before it hold, and it does not
+  pub cause : 0 < n → FirstCause (conditions job (length plan₀) (length levels₀)) n
+  -- "and no other": a cause that is the first has this number
+  pub no-other : (m : ℕ) → FirstCause (conditions job (length plan₀) (length levels₀)) m → n ≡ m
+  -- and a job is accepted exactly where none applies
+  pub accepted : (n ≡ 0) ↔ AllHold (conditions job (length plan₀) (length levels₀))
+  -- "a power of zero"
+  pub no-power : 0 < n → reported ≡ 0
+  -- "and both lent buffers byte for byte as they came"
+  pub plan-kept : 0 < n → planned ≡ plan₀
+  pub levels-kept : 0 < n → leveled ≡ levels₀
 
 pub record Demand2 (job : Job) (reported : ℕ) (plan : List ℕ) : Type 0 where
   pub placement : Placement job plan

@@ -7,3 +7,4 @@ pub mod OfJob
 pub mod Fair
 pub mod Passed
 pub mod Demands
+pub mod CaseClaim

@@ -22,15 +22,11 @@ use Rattle.model.specs.Job.{Job}
 use Rattle.model.specs.Power.{each, held, heaviest, active, levelNumber, levels}
 use Rattle.model.specs.Refusals.{Ordered}
 use Rattle.optimum.specs.Loads.{Sorted}
+use Rattle.optimum.proofs.Spread.{each-length}
 use Rattle.optimum.proofs.Held.{held-append, held-other, heaviest-append}
 use Rattle.optimum.proofs.OrderedLoads.{ordered-sorted}
 use Rattle.optimum.proofs.SortedLoads.{sorted-front, top-heaviest}
 use Rattle.planner.specs.Positions.{Looked, Named, Blank, Numbers}
-
-each-length : (g : ℕ → ℕ) (base v : ℕ) → length (each g base v) ≡ v
-unfolding each
-each-length g base zero = refl
-each-length g base (suc v) = ap suc (each-length g (suc base) v)
 
 each-at : (g : ℕ → ℕ) (base v i : ℕ) → i < v → getD (each g base v) i 0 ≡ g (suc (base + i))
 unfolding each

@@ -1,5 +1,6 @@
+pub mod Answers
 pub mod Charges
-pub mod Filled
+pub mod Loops
 pub mod LevelBytes
 pub mod Square
 pub mod Rows

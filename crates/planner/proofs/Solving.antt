@@ -14,7 +14,7 @@ use Rattle.model.specs.Limits.{most-places}
 use Rattle.model.specs.Refusals.{FitSizes}
 use Rattle.optimum.specs.Chosen.{planBy}
 use Rattle.optimum.proofs.ChosenSame.{plan-length, plan-of-bests}
-use Rattle.planner.specs.Square.{bestAt, Found}
+use Rattle.planner.specs.Square.{squareSize, bestAt, Found}
 use Rattle.planner.specs.Bounds.{Light, Sized}
 use Rattle.planner.specs.Written.{RunWritten}
 use Rattle.planner.specs.Settled.{Solved}
@@ -26,7 +26,7 @@ pub board-sized :
     (v Q : ℕ) (ws bests : List ℕ)
     → FitSizes v Q
     → length ws ≡ v * Q
-    → length bests ≡ 4096
+    → length bests ≡ squareSize
     → Light ws
     → Sized Q ws bests
 board-sized v Q ws bests sizes places square light =

@@ -9,8 +9,8 @@ use mathlib.Core.List.{List, _++_}
 use native.Mathlib.Omega.{arith}
 use Rattle.model.specs.declared.Refusal.{Refusal}
 use Rattle.model.specs.Table.{Table}
-use Rattle.model.specs.Refusals.{Condition, Tried, tableConditions}
-use Rattle.model.proofs.Trying.{Numbers, AllHold, all-hold, tried-one, tried-refused, cause-one, cause-some}
+use Rattle.model.specs.Refusals.{Condition, Tried, AllHold, tableConditions}
+use Rattle.model.proofs.Trying.{Numbers, all-hold, tried-one, tried-refused, cause-one, cause-some}
 use Rattle.table.specs.declared.Judged.{Judged}
 use Rattle.table.specs.declared.Judged.the-variants.{Sound, Refused}
 use Rattle.table.specs.Judged.{TableAnswer, numberOf}

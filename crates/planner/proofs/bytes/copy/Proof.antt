@@ -4,7 +4,7 @@ use mathlib.Core.Path.{_≡_}
 use native.Mathlib.Omega.{arith}
 use borrow.Author.Needs.{needs}
 use lib.ListN.{length, length-set}
-use Rattle.planner.proofs.Filled.{Pasted, pasted-none, pasted-more, pasted-front}
+use Rattle.planner.proofs.Loops.{Pasted, pasted-none, pasted-more, pasted-front}
 use Rattle.planner.proofs.bytes.copy.Statement.{statement}
 use Rattle.planner.proofs.bytes.copy.Tie as tie
 

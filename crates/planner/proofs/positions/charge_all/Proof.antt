@@ -6,7 +6,7 @@ use borrow.Author.Needs.{needs}
 use lib.ListN.{length, getD, length-set}
 use Rattle.model.specs.Level.{cost}
 use Rattle.table.specs.Judged.{tableOf}
-use Rattle.planner.proofs.Filled.{Stored, stored-none, stored-more}
+use Rattle.planner.proofs.Loops.{Stored, stored-none, stored-more}
 use Rattle.planner.proofs.positions.charge_all.Statement.{statement}
 use Rattle.planner.proofs.positions.charge_all.Tie as tie
 

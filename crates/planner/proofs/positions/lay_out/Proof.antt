@@ -4,7 +4,7 @@ use mathlib.Core.Path.{_≡_, refl}
 use native.Mathlib.Omega.{arith}
 use borrow.Author.Needs.{needs}
 use lib.ListN.{length, length-set}
-use Rattle.planner.proofs.Filled.{Pasted, pasted-none, pasted-more, pasted-end}
+use Rattle.planner.proofs.Loops.{Pasted, pasted-none, pasted-more, pasted-end}
 use Rattle.planner.proofs.positions.lay_out.Statement.{statement}
 use Rattle.planner.proofs.positions.lay_out.Tie as tie
 

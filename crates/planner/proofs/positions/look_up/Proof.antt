@@ -6,7 +6,7 @@ use borrow.Author.Needs.{needs}
 use lib.ListN.{length, getD, length-set}
 use Rattle.model.specs.Level.{lowest}
 use Rattle.planner.proofs.Charges.{lowest-most}
-use Rattle.planner.proofs.Filled.{Stored, stored-none, stored-more}
+use Rattle.planner.proofs.Loops.{Stored, stored-none, stored-more}
 use Rattle.planner.proofs.positions.look_up.Statement.{statement}
 use Rattle.planner.proofs.positions.look_up.Tie as tie
 

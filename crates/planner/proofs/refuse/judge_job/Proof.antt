@@ -5,8 +5,8 @@ use borrow.Author.Needs.{needs}
 use denote.Ref.{now}
 use lib.Dec.{lit<}
 use Rattle.model.specs.Job.{Job}
-use Rattle.model.specs.Refusals.{Condition, sizeConditions, tableConditions, powerConditions, loadConditions, roomConditions}
-use Rattle.model.proofs.Trying.{AllHold, tried-onward}
+use Rattle.model.specs.Refusals.{Condition, AllHold, sizeConditions, tableConditions, powerConditions, loadConditions, roomConditions}
+use Rattle.model.proofs.Trying.{tried-onward}
 use Rattle.planner.specs.Given.{jobOf}
 use Rattle.table.proofs.Answers.{answer-refused, answer-sound}
 use Rattle.planner.proofs.refuse.judge_job.Statement.{statement}
