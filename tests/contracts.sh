@@ -1,6 +1,6 @@
 #!/bin/sh
-# Each `pub fn` of the crates: its head, from the name to the brace of its body, has an `ensures` and no `requires`. `pub(crate)`
-# functions are the crate's own affair. The check is first tried on heads that it has to find fault with.
+# Each `pub fn` of the crates, exported to C or not: its head, from the name to the brace of its body, has an `ensures` and no `requires`.
+# `pub(crate)` functions are the crate's own affair. The check is first tried on heads that it has to find fault with.
 set -u
 cd "$(dirname "$0")/.." || exit 1
 
@@ -45,6 +45,10 @@ pub fn long_and_bare(
 ) -> u64 {
     x
 }
+#[no_mangle]
+pub extern "C" fn exported_and_bare(x: u64) -> u64 {
+    x
+}
 pub fn asks(x: u64) -> u64
     requires { ⌜ x < 8 ⌝ }
     ensures { λ r. ⌜ r ≡ x ⌝ }
@@ -52,8 +56,8 @@ pub fn asks(x: u64) -> u64
     x
 }
 HEADS
-if [ "$(heads "$faults" | tail -n 1)" != "1 passed, 4 failed" ]; then
-    echo "the check itself is at fault: of five heads it has to pass one"
+if [ "$(heads "$faults" | tail -n 1)" != "1 passed, 5 failed" ]; then
+    echo "the check itself is at fault: of six heads it has to pass one"
     heads "$faults"
     exit 1
 fi

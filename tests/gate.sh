@@ -38,6 +38,7 @@ part "layout of every .rt and .antt file" layout
 part "every crate proved from nothing, every must-fail edit refused, every program's output compared" rt ci
 part "every public function states its result and asks nothing of its caller" sh tests/contracts.sh
 part "a quantity in the place of another is refused" sh tests/mixed_units.sh
+part "the library answers a caller in C, and touches no byte that it should not" sh tests/c_interface.sh
 
 echo "$passed passed, $failed failed"
 [ "$failed" -eq 0 ] && [ "$passed" -gt 0 ]

@@ -2,11 +2,14 @@
 
 say() { printf '== %s\n' "$*"; }
 
+# add PACKAGE..: installs Debian's packages
+add() { { apt-get update && apt-get install -y --no-install-recommends "$@"; } >/dev/null 2>&1; }
+
 # need COMMAND PACKAGE: installs Debian's package where the command is missing
 need() {
     command -v "$1" >/dev/null 2>&1 && return 0
     say "installing $2 for the command $1"
-    { apt-get update && apt-get install -y --no-install-recommends "$2"; } >/dev/null 2>&1 && command -v "$1" >/dev/null 2>&1 && return 0
+    add "$2" && command -v "$1" >/dev/null 2>&1 && return 0
     say "$1 is missing, and Debian's package $2 could not be installed"
     exit 1
 }
@@ -18,11 +21,37 @@ need_rt() {
     exit 1
 }
 
-# run_program NAME: runs a program that rt has built. Programs are x86-64 code: the toolchain has the loader and the C library that they
-# run with and, where the machine is another one, an emulator.
-run_program() {
-    kit=$(dirname "$(dirname "$(readlink -f "$(command -v rt)")")")/on/$(uname -m)/toolchain
-    emulator=$kit/bin/qemu-x86_64
-    [ -x "$emulator" ] || emulator=
-    ${emulator:+"$emulator"} "$kit/lib/ld-linux-x86-64.so.2" --library-path "$kit/lib" "target/bin/$1"
+# need_cc: leaves in cc the words that compile and link C for x86-64, which is what rt builds. On another machine they link the C library in,
+# because the emulator is given no other.
+need_cc() {
+    if [ "$(uname -m)" = x86_64 ]; then
+        cc=gcc packages="gcc libc6-dev"
+    else
+        cc="x86_64-linux-gnu-gcc -static" packages="gcc-x86-64-linux-gnu libc6-dev-amd64-cross"
+    fi
+    links_c && return 0
+    say "installing $packages for the command $cc"
+    add $packages && links_c && return 0
+    say "$cc links no program, and Debian's packages $packages could not be installed"
+    exit 1
 }
+
+links_c() {
+    probe=$(mktemp) || exit 1
+    echo 'int main(void) { return 0; }' | $cc -x c - -o "$probe" 2>/dev/null
+    linked=$?
+    rm -f "$probe"
+    return $linked
+}
+
+# emulate FILE WORD..: runs x86-64 code; where the machine is another one, the toolchain has an emulator
+emulate() {
+    emulator=$(kit)/bin/qemu-x86_64
+    [ -x "$emulator" ] || emulator=
+    ${emulator:+"$emulator"} "$@"
+}
+
+kit() { echo "$(dirname "$(dirname "$(readlink -f "$(command -v rt)")")")/on/$(uname -m)/toolchain"; }
+
+# run_program NAME: runs a program that rt has built, with the loader and the C library that the toolchain has for it
+run_program() { emulate "$(kit)/lib/ld-linux-x86-64.so.2" --library-path "$(kit)/lib" "target/bin/$1"; }

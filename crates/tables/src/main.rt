@@ -2,32 +2,17 @@
 // table T as `load,level`, counted from 0, with 3 where no level is fast enough. What it writes is held to the file stdout beside
 // src/. A name says what is wrong; `at` is the last value that passes, `past` the first that does not.
 use libc::STDOUT_FILENO;
-use model::Refusal;
 use table::Judged;
 use units::Kilohertz;
-
-fn cause(refusal: Refusal) -> u64 {
-    match refusal {
-        Refusal::Sizes => 1,
-        Refusal::Levels => 2,
-        Refusal::Ranges => 3,
-        Refusal::Slopes => 4,
-        Refusal::IslandPower => 5,
-        Refusal::Count => 6,
-        Refusal::Order => 7,
-        Refusal::Speed => 8,
-        Refusal::Buffers => 9,
-    }
-}
 
 fn show(name: &[u8], frequencies: &[u32], powers: &[u32]) {
     let number = match table::judge(frequencies, powers) {
         Judged::Sound => 0,
-        Judged::Refused(refusal) => cause(refusal),
+        Judged::Refused(cause) => model::number(cause),
     };
     io::write_all(STDOUT_FILENO, name);
     io::write_all(STDOUT_FILENO, b",");
-    io::print_decimal(STDOUT_FILENO, number);
+    io::print_decimal(STDOUT_FILENO, number as u64);
     io::write_all(STDOUT_FILENO, b"\n");
 }
 

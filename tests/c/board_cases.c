@@ -1,0 +1,207 @@
+/* Calls the planner through its C interface: the board cases, then jobs that are easy to answer wrongly. Each is planned with buffers that
+ * fit exactly, that are longer, and that are too short. Held to the table below are the answer, the total and every byte of both buffers,
+ * with the bytes before and behind them. The last line is 'N passed, M failed'.
+ */
+#include "mizhgavul.h"
+
+#include <stdio.h>
+#include <string.h>
+
+struct words {
+    const uint32_t *at;
+    size_t n;
+};
+
+struct loads {
+    const uint64_t *at;
+    size_t n;
+};
+
+struct bytes {
+    const uint8_t *at;
+    size_t n;
+};
+
+struct row {
+    const char *name;
+    uint64_t islands, cores;
+    uint32_t island_power;
+    struct words frequencies, powers;
+    struct loads loads;
+    uint32_t answer;
+    uint64_t total;
+    struct bytes plan, levels;
+};
+
+/* The lists are constants, so a write to one of them ends the program. */
+#define LIST(type, ...) {(const type[]){__VA_ARGS__}, sizeof((const type[]){__VA_ARGS__}) / sizeof(type)}
+#define WORDS(...) LIST(uint32_t, __VA_ARGS__)
+#define LOADS(...) LIST(uint64_t, __VA_ARGS__)
+#define BYTES(...) LIST(uint8_t, __VA_ARGS__)
+#define NO_WORDS {(const uint32_t[]){1000}, 0}
+#define NO_LOADS {(const uint64_t[]){100000}, 0}
+#define NO_BYTES {(const uint8_t[]){0}, 0}
+#define EIGHT(...) __VA_ARGS__, __VA_ARGS__, __VA_ARGS__, __VA_ARGS__, __VA_ARGS__, __VA_ARGS__, __VA_ARGS__, __VA_ARGS__
+
+#define TABLE_T WORDS(100000, 200000, 400000), WORDS(10000, 40000, 160000)
+#define FALLING WORDS(100000, 200000), WORDS(10000, 19999)
+#define PLANNED(total, plan, levels) 0, total, plan, levels
+#define REFUSED(number) number, 0, NO_BYTES, NO_BYTES
+
+/* What is expected, with buffers that fit. */
+static const struct row rows[] = {
+    /* the board cases */
+    {"case 1", 2, 2, 0, TABLE_T, LOADS(50000, 100000, 200000, 400000), PLANNED(240000000000, BYTES(2, 1, 1, 2), BYTES(2, 3))},
+    {"case 2", 2, 2, 20000, TABLE_T, LOADS(50000, 100000, 200000, 400000), PLANNED(280000000000, BYTES(2, 1, 1, 2), BYTES(2, 3))},
+    {"case 3", 2, 2, 0, TABLE_T, LOADS(0, 0, 100000, 100000), PLANNED(20000000000, BYTES(1, 1, 2, 2), BYTES(0, 1))},
+    {"case 4", 2, 2, 1, TABLE_T, LOADS(0, 0, 100000, 100000), PLANNED(20001000000, BYTES(1, 1, 2, 2), BYTES(0, 1))},
+    {"case 5", 2, 2, 0, TABLE_T, LOADS(100000, 400000), PLANNED(170000000000, BYTES(1, 2), BYTES(1, 3))},
+    {"case 6", 2, 2, 30000, TABLE_T, LOADS(100000, 400000), PLANNED(230000000000, BYTES(2, 2), BYTES(0, 3))},
+    {"case 7", 2, 2, 40000, TABLE_T, LOADS(100000, 400000), PLANNED(240000000000, BYTES(2, 2), BYTES(0, 3))},
+    {"case 8", 2, 2, 0, TABLE_T, NO_LOADS, PLANNED(0, NO_BYTES, BYTES(0, 0))},
+    {"case 9", 1, 1, 0, WORDS(3000), WORDS(1), LOADS(3000), PLANNED(1002000, BYTES(1), BYTES(1))},
+    {"case 10", 1, 1, 0, TABLE_T, LOADS(400001), REFUSED(8)},
+    {"case 11", 1, 1, 0, FALLING, LOADS(100000), REFUSED(4)},
+    {"case 12", 1, 2, 0, TABLE_T, LOADS(2, 1, 0), REFUSED(6)},
+    {"case 13", 8, 8, 0, WORDS(354400, 1000000), WORDS(89025, 2000000),
+     LOADS(354400, 354400, 354400, 354400, 354400, 354400, 354400, 1000000),
+     PLANNED(2623176960000, BYTES(7, 7, 7, 7, 7, 7, 7, 8), BYTES(0, 0, 0, 0, 0, 0, 1, 2))},
+    {"case 14", 8, 8, 1000000000, WORDS(4000000), WORDS(10000000), LOADS(EIGHT(EIGHT(4000000))),
+     PLANNED(8640000000000000,
+             BYTES(EIGHT(1), EIGHT(2), EIGHT(3), EIGHT(4), EIGHT(5), EIGHT(6), EIGHT(7), EIGHT(8)), BYTES(EIGHT(1)))},
+
+    /* accepted, and near an edge */
+    {"case 11 with 20000", 1, 1, 0, WORDS(100000, 200000), WORDS(10000, 20000), LOADS(100000),
+     PLANNED(10000000000, BYTES(1), BYTES(1))},
+    {"one load on three islands", 3, 1, 0, TABLE_T, LOADS(100000), PLANNED(10000000000, BYTES(3), BYTES(0, 0, 1))},
+    {"zero loads alone", 2, 2, 7, TABLE_T, LOADS(0, 0, 0), PLANNED(0, BYTES(1, 2, 2), BYTES(0, 0))},
+    {"island power at its limit", 1, 1, 1000000000, TABLE_T, LOADS(100000), PLANNED(1000010000000000, BYTES(1), BYTES(1))},
+
+    /* numbers whose lower 32 bits would fit */
+    {"2^32 + 2 islands", 4294967298, 2, 0, TABLE_T, LOADS(100000), REFUSED(1)},
+    {"2^32 + 2 cores", 2, 4294967298, 0, TABLE_T, LOADS(100000), REFUSED(1)},
+    {"a load of 2^32 + 100000", 1, 1, 0, TABLE_T, LOADS(4295067296), REFUSED(8)},
+
+    /* one cause each, beside those of the board cases */
+    {"no islands", 0, 2, 0, TABLE_T, LOADS(100000), REFUSED(1)},
+    {"nine islands", 9, 2, 0, TABLE_T, LOADS(100000), REFUSED(1)},
+    {"no cores", 2, 0, 0, TABLE_T, LOADS(100000), REFUSED(1)},
+    {"nine cores", 2, 9, 0, TABLE_T, LOADS(100000), REFUSED(1)},
+    {"no levels", 2, 2, 0, NO_WORDS, NO_WORDS, LOADS(100000), REFUSED(2)},
+    {"a power too many", 2, 2, 0, WORDS(100000), WORDS(1, 2), LOADS(100000), REFUSED(2)},
+    {"a power too few", 2, 2, 0, WORDS(100000, 200000), WORDS(1), LOADS(100000), REFUSED(2)},
+    {"equal frequencies", 2, 2, 0, WORDS(100000, 100000), WORDS(1, 2), LOADS(100000), REFUSED(3)},
+    {"a falling slope of equal costs", 2, 2, 0, WORDS(1000000, 2000000), WORDS(1, 1), LOADS(100000), REFUSED(4)},
+    {"island power past its limit", 2, 2, 1000000001, TABLE_T, LOADS(100000), REFUSED(5)},
+    {"falling loads", 2, 2, 0, TABLE_T, LOADS(200000, 100000), REFUSED(7)},
+
+    /* two causes each: the first is given */
+    {"1 before 2", 0, 2, 0, NO_WORDS, NO_WORDS, LOADS(100000), REFUSED(1)},
+    {"2 before 3", 2, 2, 0, WORDS(0, EIGHT(1000), EIGHT(1000), EIGHT(1000), EIGHT(1000)),
+     WORDS(0, EIGHT(1), EIGHT(1), EIGHT(1), EIGHT(1)), LOADS(1000), REFUSED(2)},
+    {"3 before 4", 2, 2, 0, WORDS(1000, 2000, 4000), WORDS(2, 1, 0), LOADS(1000), REFUSED(3)},
+    {"4 before 5", 1, 1, 1000000001, FALLING, LOADS(100000), REFUSED(4)},
+    {"5 before 6", 1, 1, 1000000001, TABLE_T, LOADS(100000, 100000), REFUSED(5)},
+    {"6 before 7", 1, 1, 0, TABLE_T, LOADS(200000, 100000), REFUSED(6)},
+    {"7 before 8", 1, 2, 0, TABLE_T, LOADS(500000, 400001), REFUSED(7)},
+    {"1 before all others", 9, 9, 1000000001, NO_WORDS, WORDS(0), LOADS(4295067296, 4295067295), REFUSED(1)},
+};
+
+static const struct bytes nothing = NO_BYTES;
+
+/* How many bytes more than the job needs are lent. */
+struct room {
+    const char *name;
+    int plan, levels;
+};
+
+enum { MOST_PLAN = 64, MOST_LEVELS = 8, SPARE = 40, GUARD = 64 };
+
+static const struct room rooms[] = {
+    {"exact buffers", 0, 0},
+    {"longer buffers", SPARE, SPARE},
+    {"a plan byte short", -1, SPARE},
+    {"a level byte short", SPARE, -1},
+    {"empty buffers", -MOST_PLAN, -MOST_LEVELS},
+};
+
+/* A lent buffer between guards. */
+struct zone {
+    uint8_t bytes[GUARD + MOST_PLAN + SPARE + GUARD];
+};
+
+/* Every byte has a value by its place, and none that the planner writes. */
+static void fill(struct zone *zone)
+{
+    for (size_t k = 0; k < sizeof zone->bytes; k++)
+        zone->bytes[k] = (uint8_t)(0x80 + k % 0x80);
+}
+
+/* The zone as it has to be left: written over from the buffer's start, and nowhere else. */
+static int left_as(const struct zone *zone, struct bytes written)
+{
+    struct zone expected;
+
+    fill(&expected);
+    memcpy(expected.bytes + GUARD, written.at, written.n);
+    return memcmp(zone->bytes, expected.bytes, sizeof expected.bytes) == 0;
+}
+
+static size_t lent(uint64_t needed, int more)
+{
+    return more < 0 && needed < (uint64_t)-more ? 0 : (size_t)needed + (size_t)more;
+}
+
+static int fault(const struct row *row, const struct room *room, const char *what)
+{
+    printf("%s, %s: %s\n", row->name, room->name, what);
+    return 1;
+}
+
+/* Plans one row with one room; says what is wrong and returns whether anything is. */
+static int wrong(const struct row *row, const struct room *room)
+{
+    const uint64_t garbage = 0xdeadbeefcafef00d;
+    uint64_t totals[] = {garbage, garbage, garbage};
+    struct zone plan, levels;
+    size_t plan_len = lent(row->loads.n, room->plan);
+    size_t levels_len = lent(row->islands < MOST_LEVELS ? row->islands : MOST_LEVELS, room->levels);
+    int refused = row->answer != 0, narrow = plan_len < row->plan.n || levels_len < row->levels.n;
+    uint32_t expected = refused ? row->answer : narrow ? 9 : 0;
+    uint32_t answer;
+    int faults = 0;
+
+    fill(&plan);
+    fill(&levels);
+    answer = mizhgavul_plan(row->islands, row->cores, row->island_power,
+                            row->frequencies.at, row->frequencies.n, row->powers.at, row->powers.n,
+                            row->loads.at, row->loads.n,
+                            plan.bytes + GUARD, plan_len, levels.bytes + GUARD, levels_len, &totals[1]);
+    if (answer != expected) {
+        printf("%s, %s: answer %u, not %u\n", row->name, room->name, (unsigned)answer, (unsigned)expected);
+        faults++;
+    }
+    if (totals[1] != (expected ? 0 : row->total))
+        faults += fault(row, room, "the total");
+    if (totals[0] != garbage || totals[2] != garbage)
+        faults += fault(row, room, "a number beside the total");
+    if (!left_as(&plan, expected ? nothing : row->plan))
+        faults += fault(row, room, "the bytes of the plan buffer or around it");
+    if (!left_as(&levels, expected ? nothing : row->levels))
+        faults += fault(row, room, "the bytes of the level buffer or around it");
+    return faults > 0;
+}
+
+int main(void)
+{
+    unsigned passed = 0, failed = 0;
+
+    for (size_t k = 0; k < sizeof rows / sizeof rows[0]; k++)
+        for (size_t j = 0; j < sizeof rooms / sizeof rooms[0]; j++)
+            if (wrong(&rows[k], &rooms[j]))
+                failed++;
+            else
+                passed++;
+    printf("%u passed, %u failed\n", passed, failed);
+    return failed > 0;
+}
