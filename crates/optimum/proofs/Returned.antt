@@ -2,20 +2,26 @@
 -- bytes, that the plan is by the rule, and that the total is the plan's.
 --     returned-demand-2, returned-demand-3    the two demands
 -- Assumes nothing.
-use Prim.Native.Nat.{ℕ, _*_, _≤_}
+use Prim.Native.Nat.{ℕ, _+_, _*_, _≤_, _<_}
 use mathlib.Core.Path.{_≡_, sym, ap, _∙_, subst}
-use mathlib.Core.List.{List}
-use native.Mathlib.Nat.{le-trans, le-of-eq, lt-of-le-of-lt}
+use mathlib.Core.List.{List, [], _∷_}
+use native.Mathlib.Nat.{zero-add, le-trans, le-of-eq, lt-of-le-of-lt}
+use lib.Dec.{lit<}
+use lib.ListN.{length, take, drop, take-append-drop}
 use Rattle.model.specs.Table.{WellRanged}
 use Rattle.model.specs.Job.{Job}
 use Rattle.model.specs.Power.{total}
 use Rattle.model.specs.Exact.{scale}
 use Rattle.model.specs.Placement.{Placement}
-use Rattle.model.specs.Plan.{shown}
+use Rattle.model.specs.Plan.{padding, shown}
 use Rattle.model.specs.Crossing.{NoCrossing}
+use Rattle.model.specs.TieRule.{Uncrossed}
+use Rattle.model.specs.Refusals.{lastOf}
 use Rattle.model.specs.Answer.{Answered}
 use Rattle.optimum.specs.Passed.{Passed, Ruled, returned}
 use Rattle.optimum.specs.Demands.{Demand2, Demand3}
+use Rattle.optimum.proofs.Lists.{last-append}
+use Rattle.optimum.proofs.UncrossedRun.{top-last}
 use Rattle.optimum.proofs.ShownPlan.{shown-no-crossing}
 use Rattle.optimum.proofs.DemandTwo.{ruled-one, ruled-uncrossed, ruled-placement, ruled-least}
 use Rattle.optimum.proofs.ExactPower.{exact-covered, exact-close, exact-idle}
@@ -59,6 +65,27 @@ module _
       le-trans (le-of-eq (ap (λ (l : List ℕ). total job l) (sym same)))
       (ruled-least job passed full ruled other placed)
 
+  uncrossed : Uncrossed (job .cores) 0 (job .islands) full
+  uncrossed = ruled-uncrossed job passed full ruled
+
+  last-full : lastOf full ≡ job .islands
+  last-full =
+      let cut = top-last (job .cores) 0 (job .islands) full (passed .well .sizes .some-core) (passed .well .sizes .some-island) uncrossed in
+      ap (λ (l : List ℕ). lastOf l) (cut .1) ∙ last-append (cut .0) ((0 + job .islands) ∷ []) (lit< tt) ∙ zero-add (job .islands)
+
+  -- the caller's own loads are the last
+  last-shown : 0 < length (job .loads) → lastOf plan ≡ job .islands
+  unfolding plan shown
+  last-shown some =
+      let front = take (padding job) full in
+      let end = drop (padding job) full in
+      let loaded : 0 < length end =
+      subst (λ (n : ℕ). 0 < n) (sym (ap (λ (l : List ℕ). length l) same ∙ placed-plan .one-a-load)) some in
+      ap (λ (l : List ℕ). lastOf l) (sym same)
+      ∙ sym (last-append front end loaded)
+      ∙ ap (λ (l : List ℕ). lastOf l) (take-append-drop (padding job) full)
+      ∙ last-full
+
   pub returned-demand-2 : Demand2 job reported (returned job planned)
   unfolding plan full
   returned-demand-2 =
@@ -68,10 +95,12 @@ module _
         least = λ other placed. le-trans (le-of-eq reports) (below other placed);
         no-crossing =
             subst (λ (l : List ℕ). NoCrossing l) same
-            (shown-no-crossing job full (ruled-uncrossed job passed full ruled .no-crossing));
+            (shown-no-crossing job full (uncrossed .no-crossing));
         full = full;
         seen = sym same;
-        uncrossed = ruled-uncrossed job passed full ruled;
+        uncrossed = uncrossed;
+        last-position = last-full;
+        last-load = last-shown;
         ruled = ruled;
         only = λ other rule. ruled-one job passed full other ruled rule;
       }

@@ -17,7 +17,7 @@ use Rattle.model.specs.Placement.{Placement}
 use Rattle.model.specs.Plan.{shown}
 use Rattle.model.specs.Crossing.{NoCrossing}
 use Rattle.model.specs.TieRule.{Uncrossed}
-use Rattle.model.specs.Refusals.{AllHold, FirstCause, conditions}
+use Rattle.model.specs.Refusals.{AllHold, FirstCause, conditions, lastOf}
 use Rattle.optimum.specs.Passed.{Ruled}
 
 -- n is the number; plan₀ and levels₀ are the lent buffers as they came, planned and leveled as they are left
@@ -49,6 +49,9 @@ pub record Demand2 (job : Job) (reported : ℕ) (plan : List ℕ) : Type 0 where
   pub full : List ℕ
   pub seen : plan ≡ shown job full
   pub uncrossed : Uncrossed (job .cores) 0 (job .islands) full
+  -- "Island V always holds the last position", so the last load is on it
+  pub last-position : lastOf full ≡ job .islands
+  pub last-load : 0 < length (job .loads) → lastOf plan ≡ job .islands
   -- "among equals the tie rule names one"
   pub ruled : Ruled job full
   pub only : (other : List ℕ) → Ruled job other → full ≡ other
