@@ -25,7 +25,7 @@ use Rattle.optimum.specs.Best.{itself, first, least, loadAt, topLoad, fi
 use Rattle.optimum.specs.Chosen.{chosen, planGaps, planWithin, planRun}
 use Rattle.optimum.specs.OfJob.{bestOf, planOf}
 use Rattle.optimum.specs.Passed.{Passed}
-use Rattle.optimum.specs.CaseClaim.{planBytes, levelBytes, Claimed, Only, Each}
+use Rattle.optimum.specs.CaseClaim.{planLeft, levelsLeft, Claimed, Only, Each}
 use Rattle.optimum.proofs.Spread.{each-length}
 use Rattle.optimum.proofs.DemandTwo.{plan-placement}
 use Rattle.optimum.proofs.Passing.{tried-passed}
@@ -90,7 +90,7 @@ all-only : (cs : List Case) → Each Claimed cs → Each Only cs
 all-only [] claimed = tt
 all-only (c ∷ cs) claimed = (
   λ plan₀ levels₀ room n reported planned leveled answer.
-      answer-once (c .job) plan₀ levels₀ n (c .answer) reported (c .reported) planned leveled (planBytes c plan₀) (levelBytes c levels₀)
+      answer-once (c .job) plan₀ levels₀ n (c .answer) reported (c .reported) planned leveled (planLeft c plan₀) (levelsLeft c levels₀)
       answer (claimed .0 plan₀ levels₀ room),
   all-only cs (claimed .1),
 )

@@ -1,5 +1,5 @@
 -- The one claim that is made of each board case to prove: with buffers that fit, the row is the answer, and the only one.
---     planBytes, levelBytes    the two buffers as a row leaves them: its entries, and what stood beyond them
+--     planLeft, levelsLeft    the two buffers as a row leaves them: its entries, and what stood beyond them
 --     Fit        buffers with room for the row's job
 --     Claimed    the row is the answer to its job
 --     Only       and every answer to its job is the row
@@ -14,11 +14,11 @@ use Rattle.model.specs.Cases.{Case}
 use Rattle.optimum.specs.Demands.{SameAnswer}
 
 -- "Bytes beyond the first n and the first V keep their values." A refusal's row has no entries, so that all bytes keep theirs.
-abbrev pub planBytes : Case → List ℕ → List ℕ
-planBytes c plan₀ = c .plan ++ drop (length (c .plan)) plan₀
+abbrev pub planLeft : Case → List ℕ → List ℕ
+planLeft c plan₀ = c .plan ++ drop (length (c .plan)) plan₀
 
-abbrev pub levelBytes : Case → List ℕ → List ℕ
-levelBytes c levels₀ = c .levels ++ drop (length (c .levels)) levels₀
+abbrev pub levelsLeft : Case → List ℕ → List ℕ
+levelsLeft c levels₀ = c .levels ++ drop (length (c .levels)) levels₀
 
 -- "Buffers fit unless stated."
 abbrev pub Fit : Case → List ℕ → List ℕ → Type 0
@@ -28,7 +28,7 @@ abbrev pub Claimed : Case → Type 0
 Claimed c =
     (plan₀ levels₀ : List ℕ)
     → Fit c plan₀ levels₀
-    → Answered (c .job) plan₀ levels₀ (c .answer) (c .reported) (planBytes c plan₀) (levelBytes c levels₀)
+    → Answered (c .job) plan₀ levels₀ (c .answer) (c .reported) (planLeft c plan₀) (levelsLeft c levels₀)
 
 abbrev pub Only : Case → Type 0
 Only c =
@@ -36,7 +36,7 @@ Only c =
     → Fit c plan₀ levels₀
     → (n reported : ℕ) (planned leveled : List ℕ)
     → Answered (c .job) plan₀ levels₀ n reported planned leveled
-    → SameAnswer n reported planned leveled (c .answer) (c .reported) (planBytes c plan₀) (levelBytes c levels₀)
+    → SameAnswer n reported planned leveled (c .answer) (c .reported) (planLeft c plan₀) (levelsLeft c levels₀)
 
 abbrev pub Each : (Case → Type 0) → List Case → Type 0
 Each claim [] = Unit {0}

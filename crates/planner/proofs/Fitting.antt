@@ -23,7 +23,7 @@ use Rattle.optimum.proofs.Recurrence.{islands-parted}
 use Rattle.optimum.proofs.BestBound.{Capped, fill-most}
 use Rattle.planner.specs.Square.{bestAt, runCost}
 use Rattle.planner.specs.Rows.{rowAt, Filling}
-use Rattle.planner.specs.Bounds.{most-charge, most-member, most-own, most-draw, AllBelow, Sized, Cheap, Bounded, Fits}
+use Rattle.planner.specs.Bounds.{most-charge, most-member, most-own, most-draw, AllBelow, Sized, Cheap, Bounded, RunFits}
 use Rattle.planner.specs.Written.{Low}
 
 pub still-sized : (Q : ℕ) (ws before bests : List ℕ) → length bests ≡ length before → Sized Q ws before → Sized Q ws bests
@@ -36,7 +36,7 @@ still-sized Q ws before bests same sized =
       light = sized .light;
     }
 
-module _ (Q ρ i m : ℕ) (ws bests : List ℕ) (fits : Fits Q ρ i m ws bests) where
+module _ (Q ρ i m : ℕ) (ws bests : List ℕ) (fits : RunFits Q ρ i m ws bests) where
   pub member-most : (k : ℕ) → ρ * getD ws k 0 ≤ most-member
   member-most k = mul-le-mul {n₂ = most-charge} {m₂ = most-frequency} (fits .charge) (fits .sized .light k)
 
@@ -66,7 +66,7 @@ pub run-fits :
     → 0 < v
     → v ≤ most-islands
     → i + v * Q ≤ length ws
-    → Fits Q (getD rates k 0) i (v - 1) ws bests
+    → RunFits Q (getD rates k 0) i (v - 1) ws bests
 run-fits Q ws bests rates i v k sized cheap bounded some few inside =
     let last : i + suc (v - 1) * Q ≤ length ws = omega (arith, islands-parted v 1 Q some) in
     record {
@@ -106,7 +106,7 @@ itself-most own t = go (ltb 0 t)
 
 pub cost-most :
     (Q own i m : ℕ) (ws rates bests : List ℕ)
-    → Fits Q (getD rates (i + (m * Q + (Q - 1))) 0) i m ws bests
+    → RunFits Q (getD rates (i + (m * Q + (Q - 1))) 0) i m ws bests
     → own ≤ most-own
     → runCost Q own ws rates (bestAt Q bests) i m ≤ suc m * most-draw
 unfolding runCost

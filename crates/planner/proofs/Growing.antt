@@ -20,7 +20,7 @@ use Rattle.optimum.specs.Best.{itself, loadAt, topLoad, fill, best}
 use Rattle.optimum.proofs.Recurrence.{Agree, fill-same, best-none, best-is}
 use Rattle.planner.specs.Positions.{Charged}
 use Rattle.planner.specs.Square.{place, bestAt, runCost, Grown, Filled, Found}
-use Rattle.planner.specs.Bounds.{most-own, most-draw, Sized, Cheap, Bounded, Fits}
+use Rattle.planner.specs.Bounds.{most-own, most-draw, Sized, Cheap, Bounded, RunFits}
 use Rattle.planner.proofs.Square.{best-stored, best-others}
 use Rattle.planner.proofs.Fitting.{cost-most}
 
@@ -126,7 +126,7 @@ module _ (Q own : ℕ) (ws rates before : List ℕ) (m : ℕ) where
       where
         drawn : i + suc m * Q ≤ length ws → runCost Q own ws rates (bestAt Q before) i m ≤ suc m * most-draw
         drawn within =
-            let fits : Fits Q (getD rates (i + (m * Q + (Q - 1))) 0) i m ws before =
+            let fits : RunFits Q (getD rates (i + (m * Q + (Q - 1))) 0) i m ws before =
             record { sized = sized; charge = cheap .cheap (i + (m * Q + (Q - 1))); few = few; within = within; bounded = bounded } in
             cost-most Q own i m ws rates before fits little
 

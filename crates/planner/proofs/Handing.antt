@@ -19,14 +19,14 @@ use Rattle.optimum.specs.Passed.{Passed}
 use Rattle.optimum.proofs.NamedPlans.{full-length}
 use Rattle.optimum.proofs.Padding.{padded-length}
 use Rattle.optimum.proofs.DemandTwo.{plan-uncrossed, plan-placement}
-use Rattle.planner.specs.Positions.{Looked, Below, Named, Numbers}
+use Rattle.planner.specs.Positions.{Looked, Below, Named, LevelNumbers}
 use Rattle.planner.specs.Settled.{Leveled}
 use Rattle.planner.proofs.Laying.{below, padded-carried}
 
 -- a copy of the level bytes to the beginning of a list
 pub leveled :
     (ws plan steps : List ℕ) (islands : ℕ) (numbers lent before after : List ℕ)
-    → Numbers ws plan steps (length numbers) numbers
+    → LevelNumbers ws plan steps (length numbers) numbers
     → length numbers ≡ islands
     → lent ≡ numbers
     → after ≡ lent ++ drop (length lent) before

@@ -26,7 +26,7 @@ use Rattle.optimum.proofs.Spread.{each-length}
 use Rattle.optimum.proofs.Held.{held-append, held-other, heaviest-append}
 use Rattle.optimum.proofs.OrderedLoads.{ordered-sorted}
 use Rattle.optimum.proofs.SortedLoads.{sorted-front, top-heaviest}
-use Rattle.planner.specs.Positions.{Looked, Named, Blank, Numbers}
+use Rattle.planner.specs.Positions.{Looked, Named, Blank, LevelNumbers}
 
 each-at : (g : ℕ → ℕ) (base v i : ℕ) → i < v → getD (each g base v) i 0 ≡ g (suc (base + i))
 unfolding each
@@ -107,7 +107,7 @@ module _ (ws plan steps : List ℕ) (islands : ℕ) where
       → length plan ≡ length ws
       → SoFar k numbers
       → k ≡ length ws
-      → Numbers ws plan steps islands numbers
+      → LevelNumbers ws plan steps islands numbers
   unfolding levels
   so-far-all k numbers as-long so-far all job same wide looked =
       let byte : ℕ → ℕ = λ z. levelNumber job (held z plan (job .loads)) in

@@ -8,7 +8,7 @@
 --     Sized          a board of at most 64 positions, loads in range, a whole square
 --     Cheap          a charge for every position, none too high
 --     Bounded        the table has at most so much for the runs of at most v islands
---     Fits           a run of m + 1 islands from i on, over these and with a charge ρ
+--     RunFits        a run of m + 1 islands from i on, over these and with a charge ρ
 -- Assumes nothing.
 use Prim.Native.Nat.{ℕ, suc, _+_, _*_, _≤_, _<_}
 use mathlib.Core.Path.{_≡_}
@@ -49,7 +49,7 @@ pub record Cheap (ws rates : List ℕ) : Type 0 where
 abbrev pub Bounded : ℕ → List ℕ → List ℕ → ℕ → Type 0
 Bounded Q ws bests v = (i g : ℕ) → g ≤ v → i + g * Q ≤ length ws → bestAt Q bests i g ≤ g * most-draw
 
-pub record Fits (Q ρ i m : ℕ) (ws bests : List ℕ) : Type 0 where
+pub record RunFits (Q ρ i m : ℕ) (ws bests : List ℕ) : Type 0 where
   pub sized : Sized Q ws bests
   pub charge : ρ ≤ most-charge
   pub few : m < most-islands

@@ -5,7 +5,7 @@
 --     Below      every entry of a list is below a bound
 --     Named      every entry of a plan is the number of one of so many islands
 --     Blank      every entry of a list is 0
---     Numbers    the level bytes that the levels of the loads give, whatever the job's table
+--     LevelNumbers    the level bytes that the levels of the loads give, whatever the job's table
 -- Assumes nothing.
 use Prim.Native.Nat.{ℕ, _≤_, _<_}
 use mathlib.Core.Path.{_≡_}
@@ -34,6 +34,6 @@ Named islands plan = (k : ℕ) → k < length plan → (0 < getD plan k 0) × (g
 abbrev pub Blank : List ℕ → Type 0
 Blank xs = (k : ℕ) → getD xs k 0 ≡ 0
 
-abbrev pub Numbers : List ℕ → List ℕ → List ℕ → ℕ → List ℕ → Type 0
-Numbers ws plan steps islands numbers =
+abbrev pub LevelNumbers : List ℕ → List ℕ → List ℕ → ℕ → List ℕ → Type 0
+LevelNumbers ws plan steps islands numbers =
     (job : Job) → job .loads ≡ ws → job .islands ≡ islands → Looked (job .table .frequencies) ws steps → numbers ≡ levels job plan

@@ -4,7 +4,7 @@ ghost use mathlib.Core.List.{_++_};
 ghost use Prim.Native.Nat.{_-_, _<_, _≤_};
 ghost use lib.ListN.{length, drop};
 ghost use Rattle.model.specs.Refusals.{Ordered};
-ghost use Rattle.planner.specs.Positions.{Named, Below, Blank, Numbers};
+ghost use Rattle.planner.specs.Positions.{Named, Below, Blank, LevelNumbers};
 
 // The index of an island's level byte: islands are numbered from 1.
 fn index(island: u8) -> usize
@@ -22,7 +22,7 @@ pub(crate) fn number_levels(loads: &[u64], plan: &[u8], steps: &[u8], numbers: &
     requires { ⌜ Named (length (now numbers)) (now plan) ⌝ }
     requires { ⌜ Below 255 (now steps) ⌝ }
     requires { ⌜ Blank (now numbers) ⌝ }
-    ensures { λ _. ⌜ Numbers (now (loads .entry)) (now (plan .entry)) (now (steps .entry)) (length (now (numbers .entry))) (now (numbers .exit)) ⌝ }
+    ensures { λ _. ⌜ LevelNumbers (now (loads .entry)) (now (plan .entry)) (now (steps .entry)) (length (now (numbers .entry))) (now (numbers .exit)) ⌝ }
 {
     let mut k = 0;
     while k < loads.len() {

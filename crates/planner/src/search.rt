@@ -11,7 +11,7 @@ ghost use Rattle.model.specs.Limits.{most-islands, most-cores, most-places};
 ghost use Rattle.optimum.specs.Best.{itself, first, least, gapCost};
 ghost use Rattle.planner.specs.Square.{squareSize, place, bestAt, runCost, Grown, Found};
 ghost use Rattle.planner.specs.Rows.{rowAt, Filling};
-ghost use Rattle.planner.specs.Bounds.{most-own, AllBelow, Sized, Cheap, Bounded, Fits};
+ghost use Rattle.planner.specs.Bounds.{most-own, AllBelow, Sized, Cheap, Bounded, RunFits};
 
 // The table of bests has a place for every first and every last position.
 pub(crate) const SQUARE: usize = Board::PLACES * Board::PLACES;
@@ -120,7 +120,7 @@ fn lowest_row(
     rate: Femtojoules,
     m: usize,
 )
-    requires { ⌜ Fits cores (rate .0) start m (now positions) (now bests) ⌝ }
+    requires { ⌜ RunFits cores (rate .0) start m (now positions) (now bests) ⌝ }
     requires { ⌜ length (now rows) ≡ most-places ⌝ }
     ensures { λ _. ⌜ Filling cores (now (positions .entry)) (bestAt cores (now (bests .entry))) (rate .0) start (now (rows .exit)) 0 m ⌝ }
 {
@@ -147,7 +147,7 @@ fn next_row(
     r: usize,
     m: usize,
 )
-    requires { ⌜ Fits cores (rate .0) start m (now positions) (now bests) ⌝ }
+    requires { ⌜ RunFits cores (rate .0) start m (now positions) (now bests) ⌝ }
     requires { ⌜ length (now rows) ≡ most-places ⌝ }
     requires { ⌜ suc r < cores ⌝ }
     requires { ⌜ Filling cores (now positions) (bestAt cores (now bests)) (rate .0) start (now rows) r m ⌝ }
@@ -176,7 +176,7 @@ pub(crate) fn fill_rows(
     rate: Femtojoules,
     m: usize,
 )
-    requires { ⌜ Fits cores (rate .0) start m (now positions) (now bests) ⌝ }
+    requires { ⌜ RunFits cores (rate .0) start m (now positions) (now bests) ⌝ }
     requires { ⌜ length (now rows) ≡ most-places ⌝ }
     ensures { λ _. ⌜ Filling cores (now (positions .entry)) (bestAt cores (now (bests .entry))) (rate .0) start (now (rows .exit)) (cores - 1) m ⌝ }
 {
@@ -209,7 +209,7 @@ fn run_cost(
     start: usize,
     m: usize,
 ) -> u64
-    requires { ⌜ Fits cores (getD (now rates) (start + (m * cores + (cores - 1))) 0) start m (now positions) (now bests) ⌝ }
+    requires { ⌜ RunFits cores (getD (now rates) (start + (m * cores + (cores - 1))) 0) start m (now positions) (now bests) ⌝ }
     requires { ⌜ (length (now rates) ≡ length (now positions)) × (own .0 ≤ most-own) ⌝ }
     requires { ⌜ length (now rows) ≡ most-places ⌝ }
     ensures { λ r. ⌜ r ≡ runCost cores (own .0) (now (positions .entry)) (now (rates .entry)) (bestAt cores (now (bests .entry))) start m ⌝ }

@@ -6,7 +6,7 @@ use native.Mathlib.Omega.{arith}
 use borrow.Author.Needs.{needs}
 use denote.Ref.{now}
 use lib.ListN.{length, take, drop, replicate, length-append}
-use Rattle.planner.specs.Positions.{Named, Numbers}
+use Rattle.planner.specs.Positions.{Named, LevelNumbers}
 use Rattle.planner.proofs.Laying.{part-front, zeros-blank}
 use Rattle.planner.proofs.Handing.{leveled}
 use Rattle.planner.proofs.plan.hand_back.Statement.{statement}
@@ -64,8 +64,8 @@ returns c =
     let numbered : tie.After-number-levels = c .before .before .before .before .before .before .before .before .before .before .before in
     let args = start numbered .args in
     let same = part-front (args .islands) (replicate 8 0) (numbers numbered) (as-many numbered) in
-    let right : Numbers (now (args .loads)) (now (args .shown)) (now (args .steps)) (length (numbers numbered)) (numbers numbered) =
-    subst (λ (n : ℕ). Numbers (now (args .loads)) (now (args .shown)) (now (args .steps)) n (numbers numbered)) (omega arith)
+    let right : LevelNumbers (now (args .loads)) (now (args .shown)) (now (args .steps)) (length (numbers numbered)) (numbers numbered) =
+    subst (λ (n : ℕ). LevelNumbers (now (args .loads)) (now (args .shown)) (now (args .steps)) n (numbers numbered)) (omega arith)
     (numbered .number-levels .ensures) in (
       c .before .before .before .before .before .before .before .before .copy .ensures
           ∙ ap (λ (n : ℕ). now (args .shown) ++ drop n (now (args .plan))) (start numbered .pre .1 .0 .0),
