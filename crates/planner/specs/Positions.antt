@@ -1,10 +1,10 @@
 -- What is known of each position, by its place in a list beside the loads.
---     Looked     the level of each load, counted from 0
---     Costed     the cost of each of these levels
---     Charged    what an island is charged whose heaviest load is that one
---     Below      every entry of a list is below a bound
---     Named      every entry of a plan is the number of one of so many islands
---     Blank      every entry of a list is 0
+--     Looked          the level of each load, counted from 0
+--     Costed          the cost of each of these levels
+--     Charged         what an island is charged whose heaviest load is that one
+--     Below           every entry of a list is below a bound
+--     Named           every entry of a plan is the number of one of so many islands
+--     Blank           every entry of a list is 0
 --     LevelNumbers    the level bytes that the levels of the loads give, whatever the job's table
 -- Assumes nothing.
 use Prim.Native.Nat.{ℕ, _≤_, _<_}

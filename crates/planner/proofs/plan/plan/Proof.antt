@@ -1,8 +1,7 @@
 -- `plan` meets its contract: a job is judged, and planned where nothing is refused. Assumes nothing.
 use Prim.Native.Nat.{ℕ}
-use mathlib.Core.Path.{_≡_, refl, subst}
+use mathlib.Core.Path.{_≡_, subst}
 use mathlib.Core.List.{List}
-use native.Mathlib.Omega.{arith}
 use borrow.Author.Needs.{needs}
 use denote.Ref.{now}
 use lib.ListN.{length}
@@ -14,7 +13,7 @@ use Rattle.model.proofs.Trying.{cause-some}
 use Rattle.optimum.specs.OfJob.{bestOf}
 use Rattle.optimum.specs.Passed.{Passed}
 use Rattle.optimum.proofs.Passing.{tried-passed}
-use Rattle.optimum.proofs.Answering.{answer-planned}
+use Rattle.optimum.proofs.Answering.{answer-planned, answer-kept}
 use Rattle.table.specs.declared.Judged.{Judged}
 use Rattle.table.specs.declared.Judged.the-variants.{Sound, Refused}
 use Rattle.table.specs.Judged.{numberOf}
@@ -29,12 +28,7 @@ module _ (job : Job) (plan levels : List ℕ) {r : Judged} (tried : Tried (condi
 
   -- a refusal leaves everything as it was
   by-cause : {cause : Refusal} → r ≡ Refused cause → Answered job plan levels (causeNumber cause) 0 plan levels
-  by-cause {cause} is =
-      record {
-        tried = tried-as (Refused cause) is;
-        refused = λ some. record { no-total = refl; plan-kept = refl; levels-kept = refl };
-        accepted = λ none. absurd (omega (arith, cause-some cause));
-      }
+  by-cause {cause} is = answer-kept job plan levels (causeNumber cause) (cause-some cause) (tried-as (Refused cause) is)
 
   passed : r ≡ Sound → Passed job × RoomEnough job (length plan) (length levels)
   passed is = tried-passed job (length plan) (length levels) (tried-as Sound is)
