@@ -1,5 +1,6 @@
 -- What the definitions say of the board cases, by computation.
 --     case-numbers       the number that the first eight conditions give is the answer that 01 gives, in every case
+--     even-slope         "Case 11 with 20000 in place of 19999 is accepted."
 --     accepted-totals    the total of the plan that 01 gives is the total that 01 gives, in every accepted case
 --     accepted-levels    and its levels are those that 01 gives
 --     sorted-filling     "Filling islands in sorted order. Case 1 then totals 255000000000."
@@ -16,6 +17,7 @@ use mathlib.Core.List.{List, [], _∷_, map}
 use native.Mathlib.Nat.{not-suc-le-zero, le-of-suc-le-suc}
 use lib.Dec.{lit≤}
 use lib.ListN.{getD, replicate}
+use Rattle.model.specs.Job.{Job}
 use Rattle.model.specs.Level.{lowest, levelOf, roundedUp, cost, charge}
 use Rattle.model.specs.Power.{each, held, heaviest, sum, active, drawn, power, own, total, levelNumber, levels, workload}
 use Rattle.model.specs.Exact.{product, others, exactCost, scale, exact}
@@ -26,6 +28,21 @@ use Rattle.model.proofs.Deciding.{job-number}
 pub case-numbers : map (λ c. job-number (c .job) .0) cases ≡ map (λ c. c .answer) cases
 unfolding job-number
 case-numbers = refl
+
+-- case 11's job with another power of the second level
+abbrev sloped : ℕ → Job
+sloped power =
+    record {
+      islands = 1;
+      cores = 1;
+      power = 0;
+      table = record { frequencies = 100000 ∷ 200000 ∷ []; powers = 10000 ∷ power ∷ [] };
+      loads = 100000 ∷ [];
+    }
+
+pub even-slope : (job-number (sloped 19999) .0 ≡ 4) × (job-number (sloped 20000) .0 ≡ 0)
+unfolding job-number
+even-slope = (refl, refl)
 
 pub accepted-totals : map (λ c. total (c .job) (c .plan)) (accepted cases) ≡ map (λ c. c .reported) (accepted cases)
 unfolding lowest levelOf roundedUp cost charge each held heaviest sum active drawn power own total
