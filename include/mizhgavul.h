@@ -1,9 +1,12 @@
-/* Mizhgavul: plans loads onto the voltage islands of a board, at the least power.
+/* Mizhgavul: plans loads onto the voltage islands of a board, at the least total.
  *
  * One function. It takes a job (a board, a table of levels, a list of loads) and says which load goes to which island, at which level
- * each island runs, and what the whole draws. No placement of the loads draws less; where several draw the same, a fixed rule names one of
- * them, so every job has exactly one answer. The library is proved to keep what is said here on every input. The caller checks nothing
- * beforehand: what does not fit is refused.
+ * each island runs, and what the whole draws. No placement of the loads has a lower total. Where several have the same, one rule names the
+ * plan, so every job has exactly one answer. What is said below of answers and buffers is proved of the library for every input. The caller
+ * checks nothing beforehand: what does not fit is refused.
+ *
+ * The total is with each level's cost rounded up to whole femtojoules per cycle. It is never below the plan's exact power, and above it
+ * by less than one picowatt for each kilohertz of load; where all loads are 0 both are 0.
  *
  * Units    frequencies and loads in kilohertz (kilocycles per second), powers in microwatts, the total in picowatts;
  *          1 microwatt is 1000000 picowatts
@@ -50,6 +53,12 @@ extern "C" {
  *   *total_pw   the total in picowatts: the sum over the islands whose level is not 0, each with its island power and with the sum of its
  *               loads times the cost of its level. The cost of a level is its power times 1000000, divided by its frequency, rounded up
  *               to a whole number: femtojoules per cycle
+ *
+ * Which plan it is. Put loads of 0 in front of the list until the board is full: every island holds exactly Q places of that longer list.
+ * Islands are numbered by their last place, lowest first, so the last load is on island V, and islands that are left idle have the low
+ * numbers. No two islands take turns, with a place of the one, of the other, of the one and of the other again. Of such plans with the
+ * least total it is the one in which the island of the last place holds the later places, compared from the last down. Each stretch
+ * between its places, and the one before them, is planned by the same rule.
  *
  * The bytes of plan behind the first n and those of levels behind the first V keep their values. A job without loads is planned: its
  * total is 0, and so are its V levels.

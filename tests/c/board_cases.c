@@ -33,7 +33,7 @@ struct row {
     struct bytes plan, levels;
 };
 
-/* The lists are constants, so a write to one of them ends the program. */
+/* The lists are constants, and where the compiler puts them into memory that is only read, a write to one ends the program. */
 #define LIST(type, ...) {(const type[]){__VA_ARGS__}, sizeof((const type[]){__VA_ARGS__}) / sizeof(type)}
 #define WORDS(...) LIST(uint32_t, __VA_ARGS__)
 #define LOADS(...) LIST(uint64_t, __VA_ARGS__)
@@ -77,6 +77,13 @@ static const struct row rows[] = {
     {"zero loads alone", 2, 2, 7, TABLE_T, LOADS(0, 0, 0), PLANNED(0, BYTES(1, 2, 2), BYTES(0, 0))},
     {"island power at its limit", 1, 1, 1000000000, TABLE_T, LOADS(100000), PLANNED(1000010000000000, BYTES(1), BYTES(1))},
 
+    {"32 levels", 1, 1, 0,
+     WORDS(1000, 1001, 1002, 1003, 1004, 1005, 1006, 1007, 1008, 1009, 1010, 1011, 1012, 1013, 1014, 1015,
+           1016, 1017, 1018, 1019, 1020, 1021, 1022, 1023, 1024, 1025, 1026, 1027, 1028, 1029, 1030, 1031),
+     WORDS(1000, 1001, 1002, 1003, 1004, 1005, 1006, 1007, 1008, 1009, 1010, 1011, 1012, 1013, 1014, 1015,
+           1016, 1017, 1018, 1019, 1020, 1021, 1022, 1023, 1024, 1025, 1026, 1027, 1028, 1029, 1030, 1031),
+     LOADS(1031), PLANNED(1031000000, BYTES(1), BYTES(32))},
+
     /* numbers whose lower 32 bits would fit */
     {"2^32 + 2 islands", 4294967298, 2, 0, TABLE_T, LOADS(100000), REFUSED(1)},
     {"2^32 + 2 cores", 2, 4294967298, 0, TABLE_T, LOADS(100000), REFUSED(1)},
@@ -93,6 +100,7 @@ static const struct row rows[] = {
     {"equal frequencies", 2, 2, 0, WORDS(100000, 100000), WORDS(1, 2), LOADS(100000), REFUSED(3)},
     {"a falling slope of equal costs", 2, 2, 0, WORDS(1000000, 2000000), WORDS(1, 1), LOADS(100000), REFUSED(4)},
     {"island power past its limit", 2, 2, 1000000001, TABLE_T, LOADS(100000), REFUSED(5)},
+    {"65 loads", 8, 8, 0, TABLE_T, LOADS(EIGHT(EIGHT(100000)), 100000), REFUSED(6)},
     {"falling loads", 2, 2, 0, TABLE_T, LOADS(200000, 100000), REFUSED(7)},
 
     /* two causes each: the first is given */
@@ -115,7 +123,7 @@ struct room {
     int plan, levels;
 };
 
-enum { MOST_PLAN = 64, MOST_LEVELS = 8, SPARE = 40, GUARD = 64 };
+enum { MOST_PLAN = 65, MOST_LEVELS = 8, SPARE = 40, GUARD = 64 };
 
 static const struct room rooms[] = {
     {"exact buffers", 0, 0},

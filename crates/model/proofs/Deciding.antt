@@ -4,8 +4,8 @@
 --     one-more, all-below, all-pairs    what is decided of every number is decided of all below a bound
 --     fit-sizes, well-shaped, between, rising, well-ranged, not-falling, ordered, room-enough    each fact that a condition names
 --     Decided, number-of    a list of conditions that are decided has a first that does not hold, or none
---     boardConditions       the first eight conditions of a job, which do not look at the buffers
---     board-decided, job-number    they are decided, and give a number
+--     jobConditions       the first eight conditions of a job, which do not look at the buffers
+--     job-decided, job-number    they are decided, and give a number
 --     every-number          so do all nine
 -- Assumes nothing.
 use Prim.Native.Nat.{ℕ, zero, suc, _+_, _-_, _*_, _<_}
@@ -127,14 +127,14 @@ both-lists [] ds one other = other
 both-lists (c ∷ cs) ds one other = (one .0, both-lists cs ds (one .1) other)
 
 -- 1 to 8
-abbrev pub boardConditions : Job → List Condition
-boardConditions job =
+abbrev pub jobConditions : Job → List Condition
+jobConditions job =
     sizeConditions (job .islands) (job .cores) ++ (tableConditions (job .table) ++ (powerConditions (job .power) ++ loadConditions job))
 
 module _ (job : Job) where
-  unfoldable pub board-decided : Decided (boardConditions job)
+  unfoldable pub job-decided : Decided (jobConditions job)
   unfolding fit-sizes well-shaped well-ranged not-falling ordered decLe
-  board-decided = (
+  job-decided = (
     fit-sizes (job .islands) (job .cores),
     (
       well-shaped (job .table),
@@ -154,12 +154,12 @@ module _ (job : Job) where
     ),
   )
 
-  unfoldable pub job-number : (n : ℕ) × Tried (boardConditions job) n
-  unfolding number-of board-decided
-  job-number = number-of (boardConditions job) board-decided
+  unfoldable pub job-number : (n : ℕ) × Tried (jobConditions job) n
+  unfolding number-of job-decided
+  job-number = number-of (jobConditions job) job-decided
 
   pub every-number : (planRoom levelRoom : ℕ) → (n : ℕ) × Tried (conditions job planRoom levelRoom) n
   every-number planRoom levelRoom =
       number-of (conditions job planRoom levelRoom)
-      (both-lists (boardConditions job) (roomConditions job planRoom levelRoom) board-decided
+      (both-lists (jobConditions job) (roomConditions job planRoom levelRoom) job-decided
       (room-enough job planRoom levelRoom, tt))

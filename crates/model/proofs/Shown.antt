@@ -1,5 +1,6 @@
 -- What the definitions say of the board cases, by computation.
 --     case-numbers       the number that the first eight conditions give is the answer that 01 gives, in every case
+--     costs-of-T         "Table T […] whose costs are 100000, 200000, 400000"
 --     even-slope         "Case 11 with 20000 in place of 19999 is accepted."
 --     accepted-totals    the total of the plan that 01 gives is the total that 01 gives, in every accepted case
 --     accepted-levels    and its levels are those that 01 gives
@@ -22,12 +23,16 @@ use Rattle.model.specs.Level.{lowest, levelOf, roundedUp, cost, charge}
 use Rattle.model.specs.Power.{each, held, heaviest, sum, active, drawn, power, own, total, levelNumber, levels, workload}
 use Rattle.model.specs.Exact.{product, others, exactCost, scale, exact}
 use Rattle.model.specs.TieRule.{Leads}
-use Rattle.model.specs.Cases.{case-1, case-9, case-13, cases, accepted, third}
+use Rattle.model.specs.Cases.{tableT, third, case-1, case-9, case-13, cases, accepted}
 use Rattle.model.proofs.Deciding.{job-number}
 
 pub case-numbers : map (λ c. job-number (c .job) .0) cases ≡ map (λ c. c .answer) cases
 unfolding job-number
 case-numbers = refl
+
+pub costs-of-T : map (λ k. cost tableT k) (0 ∷ 1 ∷ 2 ∷ []) ≡ 100000 ∷ 200000 ∷ 400000 ∷ []
+unfolding roundedUp cost
+costs-of-T = refl
 
 -- case 11's job with another power of the second level
 abbrev sloped : ℕ → Job

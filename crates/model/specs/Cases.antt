@@ -1,4 +1,4 @@
--- The board cases of 01 as data: the one place of their expected values.
+-- The board cases of 01 as data: the one place of their expected values in specs and proofs. The programs that run them have their own.
 --     Case        a row of 01's table: a job, and the answer, total, plan and levels that it gets with buffers that fit
 --     case-1 to case-14, proved, run, cases    the fourteen rows, by name, in two parts and together
 --     accepted    those of some rows whose answer is 0

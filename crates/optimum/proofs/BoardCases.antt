@@ -20,7 +20,7 @@ use Rattle.model.specs.Refusals.{Tried, roomConditions}
 use Rattle.model.specs.Answer.{Answered}
 use Rattle.model.specs.Cases.{Case, proved}
 use Rattle.model.proofs.Trying.{tried-before}
-use Rattle.model.proofs.Deciding.{boardConditions, job-number}
+use Rattle.model.proofs.Deciding.{jobConditions, job-number}
 use Rattle.optimum.specs.Best.{itself, first, least, loadAt, topLoad, fill, gapCost, bestWithin, best}
 use Rattle.optimum.specs.Chosen.{chosen, planGaps, planWithin, planRun}
 use Rattle.optimum.specs.OfJob.{bestOf, planOf}
@@ -51,12 +51,12 @@ unfolding levels
 levels-length job plan = each-length (λ z. levelNumber job (held z plan (job .loads))) 0 (job .islands)
 
 module _ (job : Job) where
-  as-worked : (n : ℕ) → Tried (boardConditions job) n → Claimed (workedAs job n)
+  as-worked : (n : ℕ) → Tried (jobConditions job) n → Claimed (workedAs job n)
   unfolding workedAs
   as-worked zero tried plan₀ levels₀ room =
       let passed : Passed job =
       tried-passed job (length plan₀) (length levels₀)
-      (tried-before (boardConditions job) (roomConditions job (length plan₀) (length levels₀)) 0 (room, tt) tried) .0 in
+      (tried-before (jobConditions job) (roomConditions job (length plan₀) (length levels₀)) 0 (room, tt) tried) .0 in
       let plan : List ℕ = shown job (planOf job) in
       let places : length (job .loads) ≡ length plan = sym (plan-placement job passed .one-a-load) in
       let islands : job .islands ≡ length (levels job plan) = sym (levels-length job plan) in
@@ -66,7 +66,7 @@ module _ (job : Job) where
       places (answer-planned job plan₀ levels₀ passed room))
   as-worked (suc n) tried plan₀ levels₀ room =
       answer-kept job plan₀ levels₀ (suc n) (omega arith)
-      (tried-before (boardConditions job) (roomConditions job (length plan₀) (length levels₀)) (suc n) (room, tt) tried)
+      (tried-before (jobConditions job) (roomConditions job (length plan₀) (length levels₀)) (suc n) (room, tt) tried)
 
   pub worked-claimed : Claimed (worked job)
   unfolding worked

@@ -145,7 +145,7 @@ unfolding members
 tied-members = (refl, refl)
 
 pub tied-taken : planOf (case-6 .job) ≡ ordered
-unfolding lowest levelOf roundedUp cost charge own padding padded itself first least loadAt topLoad fill gapCost bestWithin best
+unfolding lowest levelOf roundedUp cost charge each own padding padded itself first least loadAt topLoad fill gapCost bestWithin best
     chosen planGaps planWithin planRun planOf
 tied-taken = refl
 
@@ -171,7 +171,7 @@ abbrev stacked : Job
 stacked = record { islands = 3; cores = 2; power = 0; table = tableT; loads = four ++ (400000 ∷ 400000 ∷ []) }
 
 pub gaps-settled : planOf stacked ≡ 2 ∷ 1 ∷ 1 ∷ 2 ∷ 3 ∷ 3 ∷ []
-unfolding lowest levelOf roundedUp cost charge own padding padded itself first least loadAt topLoad fill gapCost bestWithin best
+unfolding lowest levelOf roundedUp cost charge each own padding padded itself first least loadAt topLoad fill gapCost bestWithin best
     chosen planGaps planWithin planRun planOf
 gaps-settled = refl
 

@@ -9,7 +9,9 @@
 --     answered-once       no second answer fits a job
 --     answer-always       there is one, to every job with every pair of buffers
 --     demand-1            a refusal has its stated cause and no other, and keeps everything
---     demand-2, demand-3  what an accepted answer is worth
+--     demand-2            the plan of an accepted answer has the reported total, no placement's is lower, it has no crossing, is numbered by
+--                         highest position, has island V last, and is the one that the tie rule names
+--     demand-3            what its total and its plan are worth with exact fractions as costs
 --     board-cases, board-cases-once    the board cases to prove: each row is the answer to its job, and the only one
 -- Assumes nothing.
 use Prim.Native.Nat.{ℕ, _+_, _*_, _≤_, _<_}
