@@ -1,6 +1,6 @@
 -- The levels of a table, by their number, and what they cost.
 --     lowest-most    the level that is looked up is at most the number of levels
---     cost-most      no level costs more than 10000000 microwatts at 1000 kHz
+--     cost-most      no level costs more than the highest power at the lowest frequency
 -- Assumes nothing.
 use Prim.Native.Nat.{ℕ, suc, _*_, _≤_, _<_, zero-le}
 use mathlib.Core.Bool.{Bool, true, false, cond}

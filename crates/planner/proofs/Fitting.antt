@@ -1,10 +1,8 @@
 -- Every sum of the recurrence fits in 64 bits, for a run within the board.
 --     still-sized    a table that keeps its length stays a whole square
---     member-most    what a member is charged
 --     below-member   what lies below a member ends within the board
---     row-most       what a row of the recurrence has
---     row-fits       and that this fits
---     cost-most      the total of a run
+--     row-fits       what a row of the recurrence has fits in 64 bits
+--     run-most       the total of a run is no more than its islands may draw
 --     run-fits       a run of the writer is one that the rows can be filled for
 --     filled-low     rows that are those of the recurrence are low enough to be added up
 --     gaps-fit       over such rows, whatever a gap gets costs less than 2 ^ 64
@@ -37,7 +35,8 @@ still-sized Q ws before bests same sized =
     }
 
 module _ (Q ρ i m : ℕ) (ws bests : List ℕ) (fits : RunFits Q ρ i m ws bests) where
-  pub member-most : (k : ℕ) → ρ * getD ws k 0 ≤ most-member
+  -- what a member is charged
+  member-most : (k : ℕ) → ρ * getD ws k 0 ≤ most-member
   member-most k = mul-le-mul {n₂ = most-charge} {m₂ = most-frequency} (fits .charge) (fits .sized .light k)
 
   pub below-member : (r n : ℕ) → r < Q → n ≤ m → i + (n * Q + suc r) ≤ length ws
@@ -47,7 +46,8 @@ module _ (Q ρ i m : ℕ) (ws bests : List ℕ) (fits : RunFits Q ρ i m ws best
   capped r n lower few j g bound inside =
       fits .bounded j g (le-trans bound few) (omega (arith, below-member r n lower few))
 
-  pub row-most : (r n : ℕ) → r < Q → n ≤ m → fill Q ws (bestAt Q bests) ρ i r n ≤ n * most-draw + suc r * most-member
+  -- what a row of the recurrence has
+  row-most : (r n : ℕ) → r < Q → n ≤ m → fill Q ws (bestAt Q bests) ρ i r n ≤ n * most-draw + suc r * most-member
   row-most r n lower few =
       fill-most most-draw most-member Q ws (bestAt Q bests) ρ i member-most r n (capped r n lower few)
 
@@ -104,13 +104,13 @@ itself-most own t = go (ltb 0 t)
     go true = le-refl own
     go false = zero-le
 
-pub cost-most :
+pub run-most :
     (Q own i m : ℕ) (ws rates bests : List ℕ)
     → RunFits Q (getD rates (i + (m * Q + (Q - 1))) 0) i m ws bests
     → own ≤ most-own
     → runCost Q own ws rates (bestAt Q bests) i m ≤ suc m * most-draw
 unfolding runCost
-cost-most Q own i m ws rates bests fits little =
+run-most Q own i m ws rates bests fits little =
     omega (
       arith,
       itself-most own (topLoad Q ws i m),

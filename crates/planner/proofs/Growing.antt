@@ -15,14 +15,14 @@ use native.Mathlib.Nat.{not-suc-le-zero, le-trans}
 use native.Mathlib.Decide.{decLt, ℕ-discrete}
 use native.Mathlib.Omega.{arith}
 use lib.ListN.{length, getD, set}
-use Rattle.model.specs.Limits.{most-islands}
+use Rattle.model.specs.Limits.{most-islands, most-places}
 use Rattle.optimum.specs.Best.{itself, loadAt, topLoad, fill, best}
 use Rattle.optimum.proofs.Recurrence.{Agree, fill-same, best-none, best-is}
 use Rattle.planner.specs.Positions.{Charged}
 use Rattle.planner.specs.Square.{place, bestAt, runCost, Grown, Filled, Found}
 use Rattle.planner.specs.Bounds.{most-own, most-draw, Sized, Cheap, Bounded, RunFits}
 use Rattle.planner.proofs.Square.{best-stored, best-others}
-use Rattle.planner.proofs.Fitting.{cost-most}
+use Rattle.planner.proofs.Fitting.{run-most}
 
 -- the last position of a run is within it
 module _ (Q : ℕ) (ws : List ℕ) (i m : ℕ) (pos : 0 < Q) (inside : i + suc m * Q ≤ length ws) where
@@ -86,7 +86,7 @@ module _ (Q own : ℕ) (ws rates before : List ℕ) (m : ℕ) where
             ];
       })
     where
-      room : start + suc m * Q ≤ 64
+      room : start + suc m * Q ≤ most-places
       room = le-trans within (sized .few-places)
 
       other :
@@ -128,7 +128,7 @@ module _ (Q own : ℕ) (ws rates before : List ℕ) (m : ℕ) where
         drawn within =
             let fits : RunFits Q (getD rates (i + (m * Q + (Q - 1))) 0) i m ws before =
             record { sized = sized; charge = cheap .cheap (i + (m * Q + (Q - 1))); few = few; within = within; bounded = bounded } in
-            cost-most Q own i m ws rates before fits little
+            run-most Q own i m ws rates before fits little
 
     pub grown-filled :
         (rate : ℕ → ℕ) → 0 < Q → Charged rate ws rates → Filled Q own rate ws before m → Filled Q own rate ws after (suc m)

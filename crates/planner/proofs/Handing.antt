@@ -1,8 +1,7 @@
 -- What is handed back of a job that nothing refuses.
 --     leveled       level numbers that are copied to the beginning of a list
---     partOf        the part of a local array that belongs to the job's own loads, when its front was lent and came back
---     shown-plan    of the full plan it is what is shown
---     shown-steps   of the levels of all positions it has those of the loads
+--     shown-plan    the part of the full plan that belongs to the job's own loads is what is shown
+--     shown-steps   the same part of the levels of all positions has those of the loads
 --     ready         so both can be handed back
 -- Assumes nothing.
 use Prim.Native.Nat.{ℕ, _+_, _-_, _*_, _<_}
@@ -11,6 +10,7 @@ use mathlib.Core.List.{List, _++_}
 use native.Mathlib.Omega.{arith}
 use lib.ListN.{length, getD, take, drop, replicate, length-replicate, length-append, length-drop}
 use lib.Seq.{take-at, drop-append-le, getD-drop, getD-append-add}
+use Rattle.model.specs.Limits.{most-levels}
 use Rattle.model.specs.Level.{lowest}
 use Rattle.model.specs.Job.{Job}
 use Rattle.model.specs.Plan.{padding, padded, shown}
@@ -37,7 +37,8 @@ leveled ws plan steps islands numbers lent before after right long same copied j
     ∙ ap (λ (n : ℕ). numbers ++ drop n before) long
     ∙ ap (λ (l : List ℕ). l ++ drop islands before) (right job loads (wide ∙ sym long) looked)
 
-abbrev pub partOf : Job → List ℕ → List ℕ → List ℕ
+-- the part of a local array that belongs to the job's own loads, when its front was lent and came back
+abbrev partOf : Job → List ℕ → List ℕ → List ℕ
 partOf job zeros xs =
     let places = job .islands * job .cores in
     let front = places - length (job .loads) in
@@ -72,8 +73,8 @@ module _ (job : Job) (passed : Passed job) (zeros : List ℕ) where
         ∙ ap (λ (w : ℕ). lowest (job .table .frequencies) w)
         (ap (λ (n : ℕ). getD (padded job) (n + k) 0) (sym long) ∙ getD-append-add front (job .loads) k 0)
 
-    -- a table has at most 32 levels
-    low : Below 255 (drop (padding job) steps)
+    -- levels are counted from 0, so each is below the number of levels of a table
+    low : Below most-levels (drop (padding job) steps)
     low k h =
         let within : padding job + k < length steps = omega (arith, length-drop (padding job) steps) in
         let as-long = whole ∙ sym (padded-length job (passed .few)) in
@@ -88,7 +89,7 @@ module _ (job : Job) (passed : Passed job) (zeros : List ℕ) where
         (full : List ℕ)
         → full ≡ planOf job
         → ((length (partOf job zeros full) ≡ length (job .loads)) × (length (partOf job zeros steps) ≡ length (job .loads)))
-        × (Named (job .islands) (partOf job zeros full) × Below 255 (partOf job zeros steps))
+        × (Named (job .islands) (partOf job zeros full) × Below most-levels (partOf job zeros steps))
     unfolding padding
     ready full is =
         let plan = shown-plan full is in
@@ -99,6 +100,6 @@ module _ (job : Job) (passed : Passed job) (zeros : List ℕ) where
           (ap (λ (l : List ℕ). length l) plan ∙ placed .one-a-load, ap (λ (l : List ℕ). length l) levels ∙ long),
           (
             subst (λ (l : List ℕ). Named (job .islands) l) (sym plan) (placed .islands),
-            subst (λ (l : List ℕ). Below 255 l) (sym levels) low,
+            subst (λ (l : List ℕ). Below most-levels l) (sym levels) low,
           ),
         )

@@ -13,17 +13,18 @@ use native.Mathlib.Decide.{ℕ-discrete}
 use native.Mathlib.Omega.{arith}
 use lib.ListN.{length, getD, set}
 use lib.Seq.{getD-set-same, getD-set-other}
+use Rattle.model.specs.Limits.{most-islands}
 use Rattle.optimum.specs.Best.{least, loadAt, fill, gapCost}
 use Rattle.optimum.proofs.First.{least-same}
 use Rattle.optimum.proofs.Recurrence.{fill-lowest, fill-member}
 use Rattle.planner.specs.Rows.{rowAt}
 
 -- a figure c is stored at place n of row r
-module _ (rows : List ℕ) (r n place c : ℕ) (at : place ≡ r * 8 + n) (few : n < 8) where
-  row-other : (s k : ℕ) → k < 8 → ¬ ((s ≡ r) × (k ≡ n)) → rowAt (set rows place c) s k ≡ rowAt rows s k
+module _ (rows : List ℕ) (r n place c : ℕ) (at : place ≡ r * most-islands + n) (few : n < most-islands) where
+  row-other : (s k : ℕ) → k < most-islands → ¬ ((s ≡ r) × (k ≡ n)) → rowAt (set rows place c) s k ≡ rowAt rows s k
   unfolding rowAt
   row-other s k short other =
-      getD-set-other rows place (s * 8 + k) c 0
+      getD-set-other rows place (s * most-islands + k) c 0
       (λ same.
       let one : s ≡ r = omega arith in
       other (one, omega arith))
@@ -40,7 +41,7 @@ module _ (rows : List ℕ) (r n place c : ℕ) (at : place ≡ r * 8 + n) (few :
   row-grown f room new before k bound =
       elim (ℕ-discrete k n) [
         | yes e ↦
-            let here : r * 8 + k ≡ place = omega arith in
+            let here : r * most-islands + k ≡ place = omega arith in
             ap (λ (p : ℕ). getD (set rows place c) p 0) here ∙ getD-set-same rows place c 0 room ∙ new ∙ ap f (sym e)
         | no other ↦ row-other r k (omega arith) (λ same. other (same .1)) ∙ before k (omega arith)
       ]
@@ -48,7 +49,7 @@ module _ (rows : List ℕ) (r n place c : ℕ) (at : place ≡ r * 8 + n) (few :
   pub rows-kept :
       (f : ℕ → ℕ → ℕ) (last m : ℕ)
       → last < r
-      → m < 8
+      → m < most-islands
       → ((s k : ℕ) → s ≤ last → k ≤ m → rowAt rows s k ≡ f s k)
       → (s k : ℕ)
       → s ≤ last

@@ -10,7 +10,7 @@ use native.Mathlib.Nat.{le-refl, le-of-eq, le-trans, mul-le-mul, zero-add}
 use native.Mathlib.Omega.{arith}
 use lib.ListN.{length, drop-of-length-le}
 use lib.Seq.{sets, sets-eq}
-use Rattle.model.specs.Limits.{most-places}
+use Rattle.model.specs.Limits.{most-islands, most-cores, most-places}
 use Rattle.model.specs.Refusals.{FitSizes}
 use Rattle.optimum.specs.Chosen.{planBy}
 use Rattle.optimum.proofs.ChosenSame.{plan-length, plan-of-bests}
@@ -20,7 +20,7 @@ use Rattle.planner.specs.Written.{RunWritten}
 use Rattle.planner.specs.Settled.{Solved}
 
 pub board-places : (v Q : ℕ) → FitSizes v Q → v * Q ≤ most-places
-board-places v Q sizes = mul-le-mul {n₂ = 8} {m₂ = 8} (sizes .few-islands) (sizes .few-cores)
+board-places v Q sizes = mul-le-mul {n₂ = most-islands} {m₂ = most-cores} (sizes .few-islands) (sizes .few-cores)
 
 pub board-sized :
     (v Q : ℕ) (ws bests : List ℕ)

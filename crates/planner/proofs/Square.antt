@@ -1,11 +1,10 @@
 -- The place of a run in the table of bests.
 --     place-within    the place of a run within the board is one of the square's
---     place-one       no two runs share a place
 --     best-none       what the table has for a run of no islands
 --     best-some       what the table has for a run of some islands
 --     best-stored     a figure that is stored for a run is what the table then has for it
 --     best-others     and it has for every other run what it had
--- Only the first two look into `place`. Assumes nothing.
+-- Nothing here but `place-within` and `place-one` looks into `place`. Assumes nothing.
 use Prim.Native.Nat.{ℕ, zero, suc, _+_, _-_, _*_, _≤_, _<_}
 use mathlib.Core.Path.{_≡_, refl, sym, subst}
 use mathlib.Core.List.{List}
@@ -13,19 +12,21 @@ use native.Mathlib.Nat.{eq-of-mul-eq-mul-right, mul-pos, not-suc-le-zero}
 use native.Mathlib.Omega.{arith}
 use lib.ListN.{length, getD, set}
 use lib.Seq.{getD-set-same, getD-set-other}
-use Rattle.planner.specs.Square.{place, bestAt}
+use Rattle.model.specs.Limits.{most-places}
+use Rattle.planner.specs.Square.{squareSize, place, bestAt}
 
-pub place-within : (Q i v : ℕ) → 0 < v * Q → i + v * Q ≤ 64 → place Q i v < 4096
+pub place-within : (Q i v : ℕ) → 0 < v * Q → i + v * Q ≤ most-places → place Q i v < squareSize
 unfolding place
 place-within Q i v some within = omega arith
 
+-- no two runs share a place
 pub place-one :
     (Q i v i′ v′ : ℕ)
     → 0 < Q
     → 0 < v
     → 0 < v′
-    → i + v * Q ≤ 64
-    → i′ + v′ * Q ≤ 64
+    → i + v * Q ≤ most-places
+    → i′ + v′ * Q ≤ most-places
     → place Q i v ≡ place Q i′ v′
     → (i ≡ i′) × (v ≡ v′)
 unfolding place
@@ -45,7 +46,9 @@ unfolding bestAt
 best-some Q bests i zero some = absurd (not-suc-le-zero some)
 best-some Q bests i (suc m) some = refl
 
-module _ (Q : ℕ) (bests : List ℕ) (i m c : ℕ) (pos : 0 < Q) (square : length bests ≡ 4096) (within : i + suc m * Q ≤ 64) where
+module _
+    (Q : ℕ) (bests : List ℕ) (i m c : ℕ) (pos : 0 < Q) (square : length bests ≡ squareSize)
+    (within : i + suc m * Q ≤ most-places) where
   pub best-stored : bestAt Q (set bests (place Q i (suc m)) c) i (suc m) ≡ c
   unfolding bestAt
   best-stored =
@@ -54,7 +57,7 @@ module _ (Q : ℕ) (bests : List ℕ) (i m c : ℕ) (pos : 0 < Q) (square : leng
 
   pub best-others :
       (j g : ℕ)
-      → j + g * Q ≤ 64
+      → j + g * Q ≤ most-places
       → ¬ ((j ≡ i) × (g ≡ suc m))
       → bestAt Q (set bests (place Q i (suc m)) c) j g ≡ bestAt Q bests j g
   unfolding bestAt

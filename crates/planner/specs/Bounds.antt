@@ -1,33 +1,33 @@
 -- What keeps every sum within 64 bits.
---     most-charge    the cost of a level is at most this: 10000000 microwatts at 1000 kHz
---     most-member    what one load is charged is at most this
+--     most-charge    the cost of a level is at most this: the highest power over the lowest frequency, which divide without rest
+--     most-member    what one load is charged is at most this: at the highest frequency
 --     most-own       what an active island draws by itself, in picowatts, is at most this
---     most-draw      what an island draws is at most this: its own power and eight members
+--     most-draw      what an island draws is at most this: its own power and a member on every core
 --     AllBelow       each of m + 1 figures is below a bound
 --     Light          every load is within the highest frequency that a table may have
---     Sized          a board of at most 64 positions, loads in range, a whole square
+--     Sized          no more positions than a board may have, loads in range, a whole square
 --     Cheap          a charge for every position, none too high
 --     Bounded        the table has at most so much for the runs of at most v islands
 --     RunFits        a run of m + 1 islands from i on, over these and with a charge ρ
 -- Assumes nothing.
-use Prim.Native.Nat.{ℕ, suc, _+_, _*_, _≤_, _<_}
+use Prim.Native.Nat.{ℕ, suc, _+_, _*_, _/_, _≤_, _<_}
 use mathlib.Core.Path.{_≡_}
 use mathlib.Core.List.{List}
 use lib.ListN.{length, getD}
-use Rattle.model.specs.Limits.{most-frequency, most-cores, most-islands, most-places}
+use Rattle.model.specs.Limits.{million, least-frequency, most-frequency, most-power, most-island-power, most-cores, most-islands, most-places}
 use Rattle.planner.specs.Square.{squareSize, bestAt}
 
 abbrev pub most-charge : ℕ
-most-charge = 10000000000
+most-charge = most-power * million / least-frequency
 
 abbrev pub most-member : ℕ
-most-member = 40000000000000000
+most-member = most-charge * most-frequency
 
 abbrev pub most-own : ℕ
-most-own = 1000000000000000
+most-own = most-island-power * million
 
 abbrev pub most-draw : ℕ
-most-draw = 321000000000000000
+most-draw = most-own + most-cores * most-member
 
 abbrev pub AllBelow : ℕ → ℕ → (ℕ → ℕ) → Type 0
 AllBelow bound m h = (g : ℕ) → g ≤ m → h g < bound

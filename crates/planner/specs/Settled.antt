@@ -1,8 +1,9 @@
--- What is settled before anything is written into the lent buffers.
---     Carried    every load has a level that is fast enough
---     Solved     the least total of the whole board and its full plan, for every charge that the charges of the positions are
---     Leveled    a list of level bytes begins with those that the islands and the levels of the loads give, whatever the job's table
---     planBytes, levelBytes    what the two lent buffers then hold: what is written, and behind it what they held
+-- What is settled before anything is written into the lent buffers, and what is then written.
+--     Carried       every load has a level that is fast enough
+--     Solved        the least total of the whole board and its full plan, for every charge that the charges of the positions are
+--     SettledJob    the level of each position of a job, its least total and its full plan
+--     Leveled       a list of level bytes begins with those that the islands and the levels of the loads give, whatever the job's table
+--     HandedBack    the least total of a job, and both lent buffers: what is written, and behind it what they held
 -- Assumes nothing.
 use Prim.Native.Nat.{ℕ, _<_}
 use mathlib.Core.Path.{_≡_}
@@ -11,11 +12,11 @@ use lib.ListN.{length, getD, drop}
 use Rattle.model.specs.Table.{Table}
 use Rattle.model.specs.Job.{Job}
 use Rattle.model.specs.Power.{levels}
-use Rattle.model.specs.Plan.{shown}
+use Rattle.model.specs.Plan.{padded, shown}
 use Rattle.model.specs.Placement.{FastEnough}
 use Rattle.optimum.specs.Best.{best}
 use Rattle.optimum.specs.Chosen.{planRun}
-use Rattle.optimum.specs.OfJob.{planOf}
+use Rattle.optimum.specs.OfJob.{bestOf, planOf}
 use Rattle.planner.specs.Positions.{Looked, Charged}
 
 abbrev pub Carried : Table → List ℕ → Type 0
@@ -27,6 +28,11 @@ Solved Q own ws rates v total full =
     → Charged rate ws rates
     → (total ≡ best Q own rate ws 0 v) × (full ≡ planRun Q own rate ws 0 0 v)
 
+pub record SettledJob (job : Job) (steps : List ℕ) (total : ℕ) (full : List ℕ) : Type 0 where
+  pub looked : Looked (job .table .frequencies) (padded job) steps
+  pub least : total ≡ bestOf job
+  pub chosen : full ≡ planOf job
+
 abbrev pub Leveled : List ℕ → List ℕ → List ℕ → ℕ → List ℕ → List ℕ → Type 0
 Leveled ws plan steps islands before after =
     (job : Job)
@@ -35,8 +41,13 @@ Leveled ws plan steps islands before after =
     → Looked (job .table .frequencies) ws steps
     → after ≡ levels job plan ++ drop islands before
 
-abbrev pub planBytes : Job → List ℕ → List ℕ
+abbrev planBytes : Job → List ℕ → List ℕ
 planBytes job plan₀ = shown job (planOf job) ++ drop (length (job .loads)) plan₀
 
-abbrev pub levelBytes : Job → List ℕ → List ℕ
+abbrev levelBytes : Job → List ℕ → List ℕ
 levelBytes job levels₀ = levels job (shown job (planOf job)) ++ drop (job .islands) levels₀
+
+pub record HandedBack (job : Job) (plan₀ levels₀ : List ℕ) (total : ℕ) (plan levels : List ℕ) : Type 0 where
+  pub least : total ≡ bestOf job
+  pub plan-bytes : plan ≡ planBytes job plan₀
+  pub level-bytes : levels ≡ levelBytes job levels₀

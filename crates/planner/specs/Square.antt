@@ -1,11 +1,12 @@
--- The table of bests: a square of 64 by 64, where the best total of a run stands by its first and its last position.
---     squareSize the entries of the square
---     place      where the best of a run of some islands that begins at i stands
---     bestAt     what the table has for a run; a run of no islands costs nothing and has no place
---     runCost    the total of a run of m + 1 islands, by what a table has for shorter runs
---     Grown      a table with the runs of m + 1 islands added, by what it had before
---     Filled     a table that has the best of every run of at most v islands
---     Found      the same, for every charge that the charges of the positions are
+-- The table of bests: a square as wide as the largest board has positions, where the best total of a run stands by its first and its
+-- last position.
+--     squareSize    the entries of the square
+--     place         where the best of a run of some islands that begins at i stands
+--     bestAt        what the table has for a run; a run of no islands costs nothing and has no place
+--     runCost       the total of a run of m + 1 islands, by what a table has for shorter runs
+--     Grown         a table with the runs of m + 1 islands added, by what it had before
+--     Filled        a table that has the best of every run of at most v islands
+--     Found         the same, for every charge that the charges of the positions are
 -- The runs that count end at or before the last position. Assumes nothing.
 use Prim.Native.Nat.{ℕ, zero, suc, _+_, _-_, _*_, _≤_}
 use mathlib.Core.Path.{_≡_}
@@ -16,7 +17,7 @@ use Rattle.optimum.specs.Best.{itself, topLoad, fill, best}
 use Rattle.planner.specs.Positions.{Charged}
 
 abbrev pub squareSize : ℕ
-squareSize = 4096
+squareSize = most-places * most-places
 
 unfoldable pub place : ℕ → ℕ → ℕ → ℕ
 place Q i v = i * most-places + (i + v * Q - 1)

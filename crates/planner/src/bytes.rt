@@ -1,8 +1,10 @@
 // The bytes that the caller gets back: the level number of each island, and the copy into a lent buffer.
+// Functions here ask for buffers that are long enough, and for islands and levels in range; every caller within the crate shows it.
 ghost use mathlib.Core.Path.{_≡_};
 ghost use mathlib.Core.List.{_++_};
 ghost use Prim.Native.Nat.{_-_, _<_, _≤_};
 ghost use lib.ListN.{length, drop};
+ghost use Rattle.model.specs.Limits.{most-levels};
 ghost use Rattle.model.specs.Refusals.{Ordered};
 ghost use Rattle.planner.specs.Positions.{Named, Below, Blank, LevelNumbers};
 
@@ -20,7 +22,7 @@ pub(crate) fn number_levels(loads: &[u64], plan: &[u8], steps: &[u8], numbers: &
     requires { ⌜ length (now plan) ≡ length (now loads) ⌝ }
     requires { ⌜ length (now steps) ≡ length (now loads) ⌝ }
     requires { ⌜ Named (length (now numbers)) (now plan) ⌝ }
-    requires { ⌜ Below 255 (now steps) ⌝ }
+    requires { ⌜ Below most-levels (now steps) ⌝ }
     requires { ⌜ Blank (now numbers) ⌝ }
     ensures { λ _. ⌜ LevelNumbers (now (loads .entry)) (now (plan .entry)) (now (steps .entry)) (length (now (numbers .entry))) (now (numbers .exit)) ⌝ }
 {

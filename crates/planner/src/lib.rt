@@ -1,4 +1,4 @@
-// The planner: one job in, one plan out.
+// The planner: one job in, one plan out. Assumes nothing.
 mod bytes;
 pub mod plan;
 mod positions;

@@ -6,6 +6,7 @@ use super::positions::charge_all;
 use super::positions::lay_out;
 use super::positions::look_up;
 use super::refuse::judge_job;
+use super::search::MOST_ISLANDS;
 use super::search::SQUARE;
 use super::search::best_at;
 use super::search::search;
@@ -20,24 +21,19 @@ ghost use mathlib.Core.Path.{_≡_};
 ghost use mathlib.Core.List.{_++_};
 ghost use Prim.Native.Nat.{_*_, _≤_};
 ghost use lib.ListN.{length, drop};
-ghost use Rattle.model.specs.Limits.{million, most-islands, most-island-power};
+ghost use Rattle.model.specs.Limits.{million, most-islands, most-levels, most-island-power};
 ghost use Rattle.model.specs.Table.{WellShaped, WellRanged};
 ghost use Rattle.model.specs.Level.{charge};
-ghost use Rattle.model.specs.Plan.{padded};
 ghost use Rattle.model.specs.Refusals.{FitSizes, Ordered, RoomEnough};
 ghost use Rattle.model.specs.Answer.{numberOf, totalOf, Answered};
 ghost use Rattle.optimum.specs.Best.{best};
 ghost use Rattle.optimum.specs.Chosen.{planRun};
-ghost use Rattle.optimum.specs.OfJob.{bestOf, planOf};
 ghost use Rattle.optimum.specs.Passed.{Passed};
 ghost use Rattle.table.specs.Judged.{tableOf};
 ghost use Rattle.planner.specs.Given.{jobOf};
 ghost use Rattle.planner.specs.Positions.{Looked, Named, Below};
 ghost use Rattle.planner.specs.Bounds.{most-own, Light, Cheap};
-ghost use Rattle.planner.specs.Settled.{Carried, Solved, Leveled, planBytes, levelBytes};
-
-// A level number for each island.
-const LEVELS: usize = Board::ISLANDS as usize;
+ghost use Rattle.planner.specs.Settled.{Carried, Solved, SettledJob, Leveled, HandedBack};
 
 // The least total of the board, and its full plan.
 fn solve(
@@ -69,7 +65,7 @@ fn solve(
             base: 0,
         },
     );
-    Picowatts(best_at(&bests, cores, 0, islands))
+    best_at(&bests, cores, 0, islands)
 }
 
 // The same, with the level of each position, from the table.
@@ -120,9 +116,7 @@ fn settle_job(
 ) -> Picowatts
     requires { ⌜ Passed (jobOf islands cores (power .0) (now frequencies) (now powers) (now loads)) ⌝ }
     requires { ⌜ (length (now steps) ≡ islands * cores) × (length (now full) ≡ islands * cores) ⌝ }
-    ensures { λ _. ⌜ Looked (now (frequencies .entry)) (padded (jobOf islands cores (power .0) (now (frequencies .entry)) (now (powers .entry)) (now (loads .entry)))) (now (steps .exit)) ⌝ }
-    ensures { λ r. ⌜ r .0 ≡ bestOf (jobOf islands cores (power .0) (now (frequencies .entry)) (now (powers .entry)) (now (loads .entry))) ⌝ }
-    ensures { λ _. ⌜ now (full .exit) ≡ planOf (jobOf islands cores (power .0) (now (frequencies .entry)) (now (powers .entry)) (now (loads .entry))) ⌝ }
+    ensures { λ r. ⌜ SettledJob (jobOf islands cores (power .0) (now (frequencies .entry)) (now (powers .entry)) (now (loads .entry))) (now (steps .exit)) (r .0) (now (full .exit)) ⌝ }
 {
     let places = steps.len();
     let mut positions = [0u64; Board::PLACES];
@@ -151,12 +145,12 @@ fn hand_back(
     requires { ⌜ Ordered (now loads) ⌝ }
     requires { ⌜ (length (now shown) ≡ length (now loads)) × (length (now steps) ≡ length (now loads)) ⌝ }
     requires { ⌜ Named islands (now shown) ⌝ }
-    requires { ⌜ Below 255 (now steps) ⌝ }
+    requires { ⌜ Below most-levels (now steps) ⌝ }
     requires { ⌜ (islands ≤ most-islands) × (length (now loads) ≤ length (now plan)) × (islands ≤ length (now levels)) ⌝ }
     ensures { λ _. ⌜ now (plan .exit) ≡ now (shown .entry) ++ drop (length (now (loads .entry))) (now (plan .entry)) ⌝ }
     ensures { λ _. ⌜ Leveled (now (loads .entry)) (now (shown .entry)) (now (steps .entry)) islands (now (levels .entry)) (now (levels .exit)) ⌝ }
 {
-    let mut numbers = [0u8; LEVELS];
+    let mut numbers = [0u8; MOST_ISLANDS];
     number_levels(loads, shown, steps, &mut numbers[0..islands]);
     copy(shown, plan);
     copy(&numbers[0..islands], levels);
@@ -175,9 +169,7 @@ fn planned(
 ) -> Picowatts
     requires { ⌜ Passed (jobOf islands cores (power .0) (now frequencies) (now powers) (now loads)) ⌝ }
     requires { ⌜ RoomEnough (jobOf islands cores (power .0) (now frequencies) (now powers) (now loads)) (length (now plan)) (length (now levels)) ⌝ }
-    ensures { λ r. ⌜ r .0 ≡ bestOf (jobOf islands cores (power .0) (now (frequencies .entry)) (now (powers .entry)) (now (loads .entry))) ⌝ }
-    ensures { λ _. ⌜ now (plan .exit) ≡ planBytes (jobOf islands cores (power .0) (now (frequencies .entry)) (now (powers .entry)) (now (loads .entry))) (now (plan .entry)) ⌝ }
-    ensures { λ _. ⌜ now (levels .exit) ≡ levelBytes (jobOf islands cores (power .0) (now (frequencies .entry)) (now (powers .entry)) (now (loads .entry))) (now (levels .entry)) ⌝ }
+    ensures { λ r. ⌜ HandedBack (jobOf islands cores (power .0) (now (frequencies .entry)) (now (powers .entry)) (now (loads .entry))) (now (plan .entry)) (now (levels .entry)) (r .0) (now (plan .exit)) (now (levels .exit)) ⌝ }
 {
     let places = islands * cores;
     let front = places - loads.len();

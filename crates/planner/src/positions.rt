@@ -1,5 +1,6 @@
 // The positions of a board: the loads behind the padding, the level of each, and what an island is charged whose heaviest load
-// stands there.
+// stands there. Functions here ask for lists whose lengths go together, and what reads costs asks for a table in range; every caller within
+// the crate shows it.
 use table::level;
 use units::Femtojoules;
 use units::Kilohertz;
@@ -46,19 +47,19 @@ fn cost(frequency: Kilohertz, power: Microwatts) -> Femtojoules
     ensures { λ r. ⌜ r .0 ≡ roundedUp (power .0 * million) (frequency .0) ⌝ }
 {
     let f = frequency.0;
-    let femtojoules = (power.0 as u64) * 1000000;
-    Femtojoules((femtojoules + (f - 1)) / f)
+    let picowatts = power.picowatts().0;
+    Femtojoules((picowatts + (f - 1)) / f)
 }
 
 // The cost of a level, by its number.
-fn cost_at(frequencies: &[u32], powers: &[u32], step: u8) -> u64
+fn cost_at(frequencies: &[u32], powers: &[u32], step: u8) -> Femtojoules
     requires { ⌜ WellShaped (tableOf (now frequencies) (now powers)) ⌝ }
     requires { ⌜ WellRanged (tableOf (now frequencies) (now powers)) ⌝ }
     requires { ⌜ step < length (now frequencies) ⌝ }
-    ensures { λ r. ⌜ r ≡ cost (tableOf (now (frequencies .entry)) (now (powers .entry))) step ⌝ }
+    ensures { λ r. ⌜ r .0 ≡ cost (tableOf (now (frequencies .entry)) (now (powers .entry))) step ⌝ }
 {
     let k = step as usize;
-    cost(Kilohertz::of_level(frequencies[k]), Microwatts(powers[k])).0
+    cost(Kilohertz::of_level(frequencies[k]), Microwatts(powers[k]))
 }
 
 // The cost of each position's level.
@@ -71,7 +72,7 @@ pub(crate) fn charge_all(frequencies: &[u32], powers: &[u32], steps: &[u8], rate
 {
     let mut k = 0;
     while k < steps.len() {
-        rates[k] = cost_at(frequencies, powers, steps[k]);
+        rates[k] = cost_at(frequencies, powers, steps[k]).0;
         k += 1;
     }
 }

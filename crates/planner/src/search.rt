@@ -1,5 +1,8 @@
 // The best totals of all runs: a square by first and last position, filled by the recurrence from the shortest runs up.
 // A run begins at a position, counted from 0, and has whole islands; its last position holds the heaviest load of its top island.
+// Arrays hold bare numbers (positions kilohertz, rates femtojoules, bests and rows picowatts), and each is given its unit where it is read.
+// Functions here ask for lists of the right lengths, and for loads, charges and bests so low that every sum fits in 64 bits; every caller
+// within the crate shows it.
 use board::Board;
 use units::Femtojoules;
 use units::Kilohertz;
@@ -16,13 +19,14 @@ ghost use Rattle.planner.specs.Bounds.{most-own, AllBelow, Sized, Cheap,
 // The table of bests has a place for every first and every last position.
 pub(crate) const SQUARE: usize = Board::PLACES * Board::PLACES;
 
-// A row of figures has one for each number of islands in the gaps, from 0.
-const COLUMNS: usize = Board::ISLANDS as usize;
+// The islands of the largest board. A row of figures has one for each number of islands in the gaps: from 0, and fewer than all, because
+// the top island stands in no gap.
+pub(crate) const MOST_ISLANDS: usize = Board::ISLANDS as usize;
 
 // A gap below a member: the islands in it, and what it costs with all below it.
 pub(crate) struct Gap {
     pub(crate) islands: usize,
-    pub(crate) cost: u64,
+    pub(crate) cost: Picowatts,
 }
 
 // The place of a run of some islands in the table of bests: by its first and its last position.
@@ -34,15 +38,15 @@ fn place(cores: usize, start: usize, islands: usize) -> usize
 }
 
 // What the table has for a run. A run of no islands costs nothing and has no place.
-pub(crate) fn best_at(bests: &[u64], cores: usize, start: usize, islands: usize) -> u64
+pub(crate) fn best_at(bests: &[u64], cores: usize, start: usize, islands: usize) -> Picowatts
     requires { ⌜ length (now bests) ≡ squareSize ⌝ }
     requires { ⌜ (0 < cores) × (start + islands * cores ≤ most-places) ⌝ }
-    ensures { λ r. ⌜ r ≡ bestAt cores (now (bests .entry)) start islands ⌝ }
+    ensures { λ r. ⌜ r .0 ≡ bestAt cores (now (bests .entry)) start islands ⌝ }
 {
     if islands < 1 {
-        return 0;
+        return Picowatts(0);
     }
-    bests[place(cores, start, islands)]
+    Picowatts(bests[place(cores, start, islands)])
 }
 
 // What a load is charged. One kilohertz at one femtojoule per cycle is one picowatt.
@@ -54,12 +58,12 @@ fn drawn(rate: Femtojoules, load: Kilohertz) -> Picowatts
 }
 
 // What a member at a position is charged, with what the rest costs.
-fn with_member(positions: &[u64], at: usize, rate: Femtojoules, rest: u64) -> u64
+fn with_member(positions: &[u64], at: usize, rate: Femtojoules, rest: Picowatts) -> Picowatts
     requires { ⌜ at < length (now positions) ⌝ }
-    requires { ⌜ rate .0 * getD (now positions) at 0 + rest < 2 ^ 64 ⌝ }
-    ensures { λ r. ⌜ r ≡ rate .0 * getD (now (positions .entry)) at 0 + rest ⌝ }
+    requires { ⌜ rate .0 * getD (now positions) at 0 + rest .0 < 2 ^ 64 ⌝ }
+    ensures { λ r. ⌜ r .0 ≡ rate .0 * getD (now (positions .entry)) at 0 + rest .0 ⌝ }
 {
-    drawn(rate, Kilohertz(positions[at])).0 + rest
+    Picowatts(drawn(rate, Kilohertz(positions[at])).0 + rest.0)
 }
 
 // What the gap below the highest of r + 2 members costs with all below it, if g of the m islands stand in the gap.
@@ -71,14 +75,16 @@ fn gap_cost(
     r: usize,
     m: usize,
     g: usize,
-) -> u64
+) -> Picowatts
     requires { ⌜ (length (now bests) ≡ squareSize) × (length (now rows) ≡ most-places) ⌝ }
     requires { ⌜ (0 < cores) × (r < most-cores) × (m < most-islands) × (g ≤ m) × (start + (m * cores + suc r) ≤ most-places) ⌝ }
     requires { ⌜ gapCost cores (bestAt cores (now bests)) (rowAt (now rows) r) start r m g < 2 ^ 64 ⌝ }
-    ensures { λ c. ⌜ c ≡ gapCost cores (bestAt cores (now (bests .entry))) (rowAt (now (rows .entry)) r) start r m g ⌝ }
+    ensures { λ c. ⌜ c .0 ≡ gapCost cores (bestAt cores (now (bests .entry))) (rowAt (now (rows .entry)) r) start r m g ⌝ }
 {
     let left = m - g;
-    best_at(bests, cores, start + (left * cores + (r + 1)), g) + rows[r * COLUMNS + left]
+    let gap = best_at(bests, cores, start + (left * cores + (r + 1)), g);
+    let rest = Picowatts(rows[r * MOST_ISLANDS + left]);
+    Picowatts(gap.0 + rest.0)
 }
 
 // The smallest gap that costs least.
@@ -94,20 +100,23 @@ pub(crate) fn least_gap(
     requires { ⌜ (0 < cores) × (r < most-cores) × (m < most-islands) × (start + (m * cores + suc r) ≤ most-places) ⌝ }
     requires { ⌜ AllBelow (2 ^ 64) m (gapCost cores (bestAt cores (now bests)) (rowAt (now rows) r) start r m) ⌝ }
     ensures { λ c. ⌜ c .islands ≡ first m (gapCost cores (bestAt cores (now (bests .entry))) (rowAt (now (rows .entry)) r) start r m) ⌝ }
-    ensures { λ c. ⌜ c .cost ≡ least m (gapCost cores (bestAt cores (now (bests .entry))) (rowAt (now (rows .entry)) r) start r m) ⌝ }
+    ensures { λ c. ⌜ c .cost .0 ≡ least m (gapCost cores (bestAt cores (now (bests .entry))) (rowAt (now (rows .entry)) r) start r m) ⌝ }
 {
     let mut islands = 0;
-    let mut cost = gap_cost(bests, rows, cores, start, r, m, 0);
+    let mut cost = gap_cost(bests, rows, cores, start, r, m, 0).0;
     let mut g = 0;
     while g < m {
         g += 1;
-        let other = gap_cost(bests, rows, cores, start, r, m, g);
+        let other = gap_cost(bests, rows, cores, start, r, m, g).0;
         if other < cost {
             islands = g;
             cost = other;
         }
     }
-    Gap { islands, cost }
+    Gap {
+        islands,
+        cost: Picowatts(cost),
+    }
 }
 
 // The row of the lowest member: what it is charged, and the best of the run below it.
@@ -131,7 +140,7 @@ fn lowest_row(
             start + n * cores,
             rate,
             best_at(bests, cores, start, n),
-        );
+        ).0;
         n += 1;
     }
 }
@@ -156,12 +165,12 @@ fn next_row(
     let mut n = 0;
     while n <= m {
         let gap = least_gap(bests, rows, cores, start, r, n);
-        rows[(r + 1) * COLUMNS + n] = with_member(
+        rows[(r + 1) * MOST_ISLANDS + n] = with_member(
             positions,
             start + (n * cores + (r + 1)),
             rate,
             gap.cost,
-        );
+        ).0;
         n += 1;
     }
 }
@@ -208,11 +217,11 @@ fn run_cost(
     own: Picowatts,
     start: usize,
     m: usize,
-) -> u64
+) -> Picowatts
     requires { ⌜ RunFits cores (getD (now rates) (start + (m * cores + (cores - 1))) 0) start m (now positions) (now bests) ⌝ }
     requires { ⌜ (length (now rates) ≡ length (now positions)) × (own .0 ≤ most-own) ⌝ }
     requires { ⌜ length (now rows) ≡ most-places ⌝ }
-    ensures { λ r. ⌜ r ≡ runCost cores (own .0) (now (positions .entry)) (now (rates .entry)) (bestAt cores (now (bests .entry))) start m ⌝ }
+    ensures { λ r. ⌜ r .0 ≡ runCost cores (own .0) (now (positions .entry)) (now (rates .entry)) (bestAt cores (now (bests .entry))) start m ⌝ }
 {
     let last = start + (m * cores + (cores - 1));
     fill_rows(
@@ -224,7 +233,9 @@ fn run_cost(
         Femtojoules(rates[last]),
         m,
     );
-    by_itself(own, Kilohertz(positions[last])).0 + rows[(cores - 1) * COLUMNS + m]
+    let itself = by_itself(own, Kilohertz(positions[last]));
+    let members = Picowatts(rows[(cores - 1) * MOST_ISLANDS + m]);
+    Picowatts(itself.0 + members.0)
 }
 
 // All runs of m + 1 islands, added to a table that has the shorter ones.
@@ -248,7 +259,7 @@ fn runs_of(
     let mut start = 0;
     while start + size <= positions.len() {
         let cost = run_cost(bests, positions, rates, rows, cores, own, start, m);
-        bests[place(cores, start, m + 1)] = cost;
+        bests[place(cores, start, m + 1)] = cost.0;
         start += 1;
     }
 }

@@ -1,6 +1,7 @@
 // The plan writer: a run hands its gaps on, and each gap hands its run back.
 // From the highest member down, each gap gets the fewest islands that attain the least total: so members are greatest at the first
-// difference.
+// difference. Functions here ask for a plan as long as the positions, for a run within them, and for bests, charges and rows so low that
+// every sum fits in 64 bits; every caller within the crate shows it.
 use super::search::fill_rows;
 use super::search::least_gap;
 use board::Board;

@@ -6,6 +6,7 @@ use native.Mathlib.Omega.{arith}
 use borrow.Author.Needs.{needs}
 use denote.Ref.{now}
 use lib.ListN.{length, take, drop, replicate, length-append}
+use Rattle.model.specs.Limits.{most-islands}
 use Rattle.planner.specs.Positions.{Named, LevelNumbers}
 use Rattle.planner.proofs.Laying.{part-front, zeros-blank}
 use Rattle.planner.proofs.Handing.{leveled}
@@ -34,9 +35,9 @@ number-levels-requires : tie.Need-number-levels-requires
 number-levels-requires c κs =
     let begin : tie.Start = c .before .before .before .before .before .before in
     let pre = begin .pre in
-    let wide : begin .args .islands ≡ length {A = ℕ} (take (begin .args .islands - 0) (replicate 8 0)) = omega arith in
+    let wide : begin .args .islands ≡ length {A = ℕ} (take (begin .args .islands - 0) (replicate most-islands 0)) = omega arith in
     let named = subst (λ (n : ℕ). Named n (now (begin .args .shown))) wide (pre .1 .1 .0) in
-    (pre .0, (pre .1 .0 .0, (pre .1 .0 .1, (named, (pre .1 .1 .1 .0, zeros-blank (begin .args .islands - 0) 8)))))
+    (pre .0, (pre .1 .0 .0, (pre .1 .0 .1, (named, (pre .1 .1 .1 .0, zeros-blank (begin .args .islands - 0) most-islands)))))
 
 copy-requires : tie.Need-copy-requires
 copy-requires c κs = search needs
@@ -63,7 +64,7 @@ returns : tie.Need-returns
 returns c =
     let numbered : tie.After-number-levels = c .before .before .before .before .before .before .before .before .before .before .before in
     let args = start numbered .args in
-    let same = part-front (args .islands) (replicate 8 0) (numbers numbered) (as-many numbered) in
+    let same = part-front (args .islands) (replicate most-islands 0) (numbers numbered) (as-many numbered) in
     let right : LevelNumbers (now (args .loads)) (now (args .shown)) (now (args .steps)) (length (numbers numbered)) (numbers numbered) =
     subst (λ (n : ℕ). LevelNumbers (now (args .loads)) (now (args .shown)) (now (args .steps)) n (numbers numbered)) (omega arith)
     (numbered .number-levels .ensures) in (

@@ -10,7 +10,6 @@ use Rattle.model.specs.Job.{Job}
 use Rattle.model.specs.Refusals.{RoomEnough, Tried, conditions, causeNumber}
 use Rattle.model.specs.Answer.{Answered}
 use Rattle.model.proofs.Trying.{cause-some}
-use Rattle.optimum.specs.OfJob.{bestOf}
 use Rattle.optimum.specs.Passed.{Passed}
 use Rattle.optimum.proofs.Passing.{tried-passed}
 use Rattle.optimum.proofs.Answering.{answer-planned, answer-kept}
@@ -18,7 +17,7 @@ use Rattle.table.specs.declared.Judged.{Judged}
 use Rattle.table.specs.declared.Judged.the-variants.{Sound, Refused}
 use Rattle.table.specs.Judged.{numberOf}
 use Rattle.planner.specs.Given.{jobOf}
-use Rattle.planner.specs.Settled.{planBytes, levelBytes}
+use Rattle.planner.specs.Settled.{HandedBack}
 use Rattle.planner.proofs.plan.plan.Statement.{statement}
 use Rattle.planner.proofs.plan.plan.Tie as tie
 
@@ -36,12 +35,10 @@ module _ (job : Job) (plan levels : List ℕ) {r : Judged} (tried : Tried (condi
   by-plan :
       (total : ℕ) (planned leveled : List ℕ)
       → r ≡ Sound
-      → total ≡ bestOf job
-      → planned ≡ planBytes job plan
-      → leveled ≡ levelBytes job levels
+      → HandedBack job plan levels total planned leveled
       → Answered job plan levels 0 total planned leveled
-  by-plan total planned leveled is best one other =
-      rw (best, one, other) (answer-planned job plan levels (passed is .0) (passed is .1))
+  by-plan total planned leveled is done =
+      rw (done .least, done .plan-bytes, done .level-bytes) (answer-planned job plan levels (passed is .0) (passed is .1))
 
 abbrev job : tie.Start → Job
 job c =
@@ -81,9 +78,8 @@ returns-2 c =
     let planned : tie.After-planned = c .before .before .before .before in
     let judged : tie.After-judge-job = planned .before .before .before .before .before in
     let start : tie.Start = judged .before .before .before .before .before .before in
-    let done = planned .planned .ensures in
     by-plan (job start) (now (start .args .plan)) (now (start .args .levels)) (judged .judge-job .ensures) _ _ _
-    (planned .before .before .before .enum-told .given .1) (done .0) (done .1 .0) (done .1 .1)
+    (planned .before .before .before .enum-told .given .1) (planned .planned .ensures)
 
 pub plan-spec : {M : Type 1} → statement M
 plan-spec =

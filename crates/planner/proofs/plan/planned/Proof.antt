@@ -86,8 +86,8 @@ hand-back-requires c κs =
     let passed = start settled .pre .0 in
     let room = start settled .pre .1 in
     let parts =
-    ready (job (start settled)) passed (replicate 64 0) (steps settled) (as-many settled) (settled .settle-job .ensures .0) (full settled)
-    (settled .settle-job .ensures .1 .1) in
+    ready (job (start settled)) passed (replicate most-places 0) (steps settled) (as-many settled) (settled .settle-job .ensures .looked)
+    (full settled) (settled .settle-job .ensures .chosen) in
     (passed .well .ordered, (parts .0, (parts .1 .0, (parts .1 .1, (passed .well .sizes .few-islands, room .plan-room, room .level-room)))))
 
 same-length : tie.Need-same-length
@@ -104,14 +104,13 @@ returns c =
     let passed = start settled .pre .0 in
     let args = start settled .args in
     let handed = c .before .before .before .before .hand-back .ensures in
-    let plan = shown-plan of passed (replicate 64 0) (full settled) (settled .settle-job .ensures .1 .1) in
-    let looked = shown-steps of passed (replicate 64 0) (steps settled) (as-many settled) (settled .settle-job .ensures .0) in (
-      settled .settle-job .ensures .1 .0,
-      (
-        handed .0 ∙ ap (λ (l : List ℕ). l ++ drop (length (of .loads)) (now (args .plan))) plan,
-        handed .1 of refl refl looked ∙ ap (λ (l : List ℕ). levels of l ++ drop (of .islands) (now (args .levels))) plan,
-      ),
-    )
+    let plan = shown-plan of passed (replicate most-places 0) (full settled) (settled .settle-job .ensures .chosen) in
+    let looked = shown-steps of passed (replicate most-places 0) (steps settled) (as-many settled) (settled .settle-job .ensures .looked) in
+    record {
+      least = settled .settle-job .ensures .least;
+      plan-bytes = handed .0 ∙ ap (λ (l : List ℕ). l ++ drop (length (of .loads)) (now (args .plan))) plan;
+      level-bytes = handed .1 of refl refl looked ∙ ap (λ (l : List ℕ). levels of l ++ drop (of .islands) (now (args .levels))) plan;
+    }
 
 pub planned-spec : {M : Type 1} → statement M
 planned-spec =

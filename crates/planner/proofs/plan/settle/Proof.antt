@@ -6,6 +6,7 @@ use native.Mathlib.Omega.{arith}
 use borrow.Author.Needs.{needs}
 use denote.Ref.{now}
 use lib.ListN.{length, take, drop, replicate, length-append}
+use Rattle.model.specs.Limits.{most-places}
 use Rattle.model.specs.Table.{Table}
 use Rattle.model.specs.Level.{charge}
 use Rattle.optimum.specs.Best.{best}
@@ -47,7 +48,7 @@ as-many c = omega arith
 abbrev lent : tie.After-charge-all → List ℕ
 lent c =
     let places = length (positions (start (looked c))) in
-    take (places - 0) (rates c ++ drop (places - 0) (replicate 64 0))
+    take (places - 0) (rates c ++ drop (places - 0) (replicate most-places 0))
 
 known :
     (c : tie.After-charge-all)
@@ -57,7 +58,8 @@ known c =
     let t = table (start found) in
     let ws = positions (start found) in
     let pre = start found .pre in
-    subst (λ (l : List ℕ). Cheap ws l × Charged (charge t) ws l) (sym (part-front (length ws) (replicate 64 0) (rates c) (as-many c)))
+    subst (λ (l : List ℕ). Cheap ws l × Charged (charge t) ws l)
+    (sym (part-front (length ws) (replicate most-places 0) (rates c) (as-many c)))
     (priced t ws (steps found) (as-long found) (found .look-up .ensures) (pre .1 .1 .1 .1 .1) (rates c) (as-many c) (c .charge-all .ensures)
     (pre .1 .0) (pre .1 .1 .0))
 

@@ -6,6 +6,7 @@ use native.Mathlib.Omega.{arith}
 use borrow.Author.Needs.{needs}
 use denote.Ref.{now}
 use lib.ListN.{length, take, drop, replicate, length-append}
+use Rattle.model.specs.Limits.{most-places}
 use Rattle.model.specs.Job.{Job}
 use Rattle.model.specs.Plan.{padded}
 use Rattle.model.specs.Level.{charge}
@@ -34,16 +35,17 @@ places c = length (now (start c .args .steps))
 
 -- the part of the local array that holds what was laid out
 abbrev lent : tie.After-lay-out → List ℕ
-lent c = take (places c - 0) (c .lay-out .last .1 .0 ++ drop (places c - 0) (replicate 64 0))
+lent c = take (places c - 0) (c .lay-out .last .1 .0 ++ drop (places c - 0) (replicate most-places 0))
 
 as-many : (c : tie.After-lay-out) → length (c .lay-out .last .1 .0) ≡ places c
 as-many c = omega arith
 
 known : (c : tie.After-lay-out) → lent c ≡ padded (job (start c))
 known c =
-    part-front (places c) (replicate 64 0) (c .lay-out .last .1 .0) (as-many c)
+    part-front (places c) (replicate most-places 0) (c .lay-out .last .1 .0) (as-many c)
     ∙ c .lay-out .ensures
-    ∙ laid (job (start c)) (start c .pre .0) (take (places c - 0) (replicate 64 0)) (zeros-blank (places c - 0) 64) (omega arith)
+    ∙ laid (job (start c)) (start c .pre .0) (take (places c - 0) (replicate most-places 0)) (zeros-blank (places c - 0) most-places)
+    (omega arith)
 
 sub-lay-out : tie.Need-sub-lay-out
 sub-lay-out c = search needs
@@ -92,12 +94,13 @@ returns c =
     let settled : tie.After-settle = c .before .before .before .before in
     let done : tie.After-lay-out = settled .before .before .before .before .before .before in
     let of = job (start done) in
-    subst
-    (λ (ws : List ℕ).
-    Looked (of .table .frequencies) ws (settled .settle .last .1 .1 .1 .1 .1 .1 .0)
-    × ((settled .settle .result .0 ≡ best (of .cores) (own of) (charge (of .table)) ws 0 (of .islands))
-    × (settled .settle .last .1 .1 .1 .1 .1 .1 .1 .0 ≡ planRun (of .cores) (own of) (charge (of .table)) ws 0 0 (of .islands))))
-    (known done) (settled .settle .ensures)
+    let found = settled .settle .ensures in
+    let steps = settled .settle .last .1 .1 .1 .1 .1 .1 .0 in
+    record {
+      looked = subst (λ (ws : List ℕ). Looked (of .table .frequencies) ws steps) (known done) (found .0);
+      least = found .1 .0 ∙ ap (λ (ws : List ℕ). best (of .cores) (own of) (charge (of .table)) ws 0 (of .islands)) (known done);
+      chosen = found .1 .1 ∙ ap (λ (ws : List ℕ). planRun (of .cores) (own of) (charge (of .table)) ws 0 0 (of .islands)) (known done);
+    }
 
 pub settle-job-spec : {M : Type 1} → statement M
 settle-job-spec =

@@ -14,11 +14,11 @@ shared-slice-read-of-level c = search needs
 of-level-requires : tie.Need-of-level-requires
 of-level-requires c κs = search needs
 
-mul-t10 : tie.Need-mul-t10
-mul-t10 c = search needs
+mul-t9 : tie.Need-mul-t9
+mul-t9 c = search needs
 
-shared-slice-read-t12 : tie.Need-shared-slice-read-t12
-shared-slice-read-t12 c = search needs
+shared-slice-read-t11 : tie.Need-shared-slice-read-t11
+shared-slice-read-t11 c = search needs
 
 cost-requires : tie.Need-cost-requires
 cost-requires c κs =
@@ -36,7 +36,7 @@ cost-at-spec =
     mul-of-level
     shared-slice-read-of-level
     of-level-requires
-    mul-t10
-    shared-slice-read-t12
+    mul-t9
+    shared-slice-read-t11
     cost-requires
     returns)

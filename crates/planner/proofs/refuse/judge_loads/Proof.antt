@@ -1,13 +1,14 @@
 -- `judge_loads` meets its contract: its three tests are the three conditions, in their order. Assumes nothing.
-use Prim.Native.Nat.{ℕ}
+use Prim.Native.Nat.{ℕ, _*_, _≤_}
 use mathlib.Core.Path.{refl}
 use mathlib.Core.Logic.{inl, inr}
-use mathlib.Core.List.{List, []}
+use mathlib.Core.List.{List, [], _∷_}
 use native.Mathlib.Nat.{mul-le-mul, not-le-of-lt}
 use native.Mathlib.Omega.{arith}
 use borrow.Author.Needs.{needs}
 use borrow.Author.Tests.{not-true, not-false}
-use Rattle.model.specs.Refusals.{Tried, loadConditions}
+use lib.ListN.{length}
+use Rattle.model.specs.Refusals.{Tried, Ordered, lastOf, loadConditions}
 use Rattle.planner.specs.Given.{jobOf, LoadsTried}
 use Rattle.planner.proofs.refuse.judge_loads.Statement.{statement}
 use Rattle.planner.proofs.refuse.judge_loads.Tie as tie
@@ -18,6 +19,15 @@ for-all :
     → Tried (loadConditions (jobOf islands cores 0 frequencies [] loads)) n
     → LoadsTried islands cores frequencies loads n
 for-all islands cores frequencies loads n tried job i c f w = rw (i, c, f, w) tried
+
+-- few enough loads, in order: the third condition decides
+by-speed :
+    (islands cores : ℕ) (frequencies loads : List ℕ) (n : ℕ)
+    → length loads ≤ islands * cores
+    → Ordered loads
+    → Tried (record { number = 8; holds = lastOf loads ≤ lastOf frequencies } ∷ []) n
+    → LoadsTried islands cores frequencies loads n
+by-speed islands cores frequencies loads n few ordered speed = for-all islands cores frequencies loads n (inr (few, inr (ordered, speed)))
 
 mul-if1 : tie.Need-mul-if1
 mul-if1 c = omega (arith, mul-le-mul (c .before .before .pre .0 .few-islands) (c .before .before .pre .0 .few-cores))
@@ -41,25 +51,15 @@ slow-enough-requires c κs = search needs
 
 returns-3 : tie.Need-returns-3
 returns-3 c =
-    for-all _ _ _ _ 8
-    (inr (
-      c .before .before .before .before .if1 .left,
-      inr (
-        c .before .before .before .ordered .ensures .holds (not-false _ (c .before .before .if2 .left)),
-        inl (c .before .slow-enough .ensures .fails (not-true _ (c .if3 .taken)), refl),
-      ),
-    ))
+    by-speed _ _ _ _ 8 (c .before .before .before .before .if1 .left)
+    (c .before .before .before .ordered .ensures .holds (not-false _ (c .before .before .if2 .left)))
+    (inl (c .before .slow-enough .ensures .fails (not-true _ (c .if3 .taken)), refl))
 
 returns-4 : tie.Need-returns-4
 returns-4 c =
-    for-all _ _ _ _ 0
-    (inr (
-      c .before .before .before .before .if1 .left,
-      inr (
-        c .before .before .before .ordered .ensures .holds (not-false _ (c .before .before .if2 .left)),
-        inr (c .before .slow-enough .ensures .holds (not-false _ (c .if3 .left)), refl),
-      ),
-    ))
+    by-speed _ _ _ _ 0 (c .before .before .before .before .if1 .left)
+    (c .before .before .before .ordered .ensures .holds (not-false _ (c .before .before .if2 .left)))
+    (inr (c .before .slow-enough .ensures .holds (not-false _ (c .if3 .left)), refl))
 
 pub judge-loads-spec : {M : Type 1} → statement M
 judge-loads-spec =

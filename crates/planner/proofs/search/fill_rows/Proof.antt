@@ -3,6 +3,7 @@ use Prim.Native.Nat.{_-_, _<_}
 use mathlib.Core.Path.{_≡_, sym, _∙_}
 use native.Mathlib.Omega.{arith}
 use lib.ListN.{length}
+use Rattle.model.specs.Limits.{most-places}
 use Rattle.planner.specs.Square.{bestAt}
 use Rattle.planner.specs.Rows.{Filling}
 use Rattle.planner.proofs.search.fill_rows.Statement.{statement}
@@ -10,7 +11,7 @@ use Rattle.planner.proofs.search.fill_rows.Tie as tie
 
 abbrev Inv-loop : tie.InvT-loop
 Inv-loop bests positions rows₀ cores start rate m r₀ rows r =
-    (r < cores) × (length rows ≡ 64) × Filling cores positions (bestAt cores bests) (rate .0) start rows r m
+    (r < cores) × (length rows ≡ most-places) × Filling cores positions (bestAt cores bests) (rate .0) start rows r m
 
 abbrev μ-loop : tie.MeasureT-loop
 μ-loop bests positions rows₀ cores start rate m r₀ rows r = cores - r

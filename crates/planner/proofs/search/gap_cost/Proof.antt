@@ -32,29 +32,29 @@ add-best-at-3 c = omega (arith, parted c)
 best-at-requires : tie.Need-best-at-requires
 best-at-requires c κs = (omega arith, (omega arith, omega (arith, parted c)))
 
-mul-result : tie.Need-mul-result
-mul-result c = search needs
+mul-t11 : tie.Need-mul-t11
+mul-t11 c = search needs
 
-add-result : tie.Need-add-result
-add-result c = search needs
+add-t14 : tie.Need-add-t14
+add-t14 c = search needs
 
-mul-result-2 : tie.Need-mul-result-2
-mul-result-2 c = search needs
+mul-t13 : tie.Need-mul-t13
+mul-t13 c = search needs
 
-shared-slice-read-result : tie.Need-shared-slice-read-result
-shared-slice-read-result c = search needs
+shared-slice-read-t16 : tie.Need-shared-slice-read-t16
+shared-slice-read-t16 c = search needs
 
 -- the sum is the gap's cost
 returns : tie.Need-returns
 unfolding gapCost rowAt
 returns c =
-    let gap = c .before .before .before .before .args in
+    let gap = c .before .before .before .before .before .before .args in
     let next : gap .r + 1 ≡ suc (gap .r) = omega arith in
     let one : ℕ → ℕ = λ k. bestAt (gap .cores) (gap .bests .now) (gap .start + ((gap .m - gap .g) * gap .cores + k)) (gap .g) in
-    ap (λ (n : ℕ). n + rowAt (gap .rows .now) (gap .r) (gap .m - gap .g)) (c .before .best-at .ensures ∙ ap one next)
+    ap (λ (n : ℕ). n + rowAt (gap .rows .now) (gap .r) (gap .m - gap .g)) (c .before .before .before .best-at .ensures ∙ ap one next)
 
-add-result-2 : tie.Need-add-result-2
-add-result-2 c = record { fits = subst (λ (n : ℕ). n < 2 ^ 64) (sym (returns c)) (c .before .before .before .before .pre .1 .1) }
+add-t16 : tie.Need-add-t16
+add-t16 c = record { fits = subst (λ (n : ℕ). n < 2 ^ 64) (sym (returns c)) (c .before .before .before .before .before .before .pre .1 .1) }
 
 pub gap-cost-spec : {M : Type 1} → statement M
 gap-cost-spec =
@@ -66,9 +66,9 @@ gap-cost-spec =
     add-best-at-2
     add-best-at-3
     best-at-requires
-    mul-result
-    add-result
-    mul-result-2
-    shared-slice-read-result
-    add-result-2
+    mul-t11
+    add-t14
+    mul-t13
+    shared-slice-read-t16
+    add-t16
     returns)

@@ -4,6 +4,7 @@ use mathlib.Core.Path.{_≡_, refl, sym, ap, _∙_, subst}
 use native.Mathlib.Nat.{not-suc-le-zero}
 use native.Mathlib.Omega.{arith}
 use lib.ListN.{length, getD, length-set}
+use Rattle.model.specs.Limits.{most-islands, most-places}
 use Rattle.optimum.specs.Best.{fill}
 use Rattle.planner.specs.Square.{bestAt}
 use Rattle.planner.specs.Rows.{rowAt}
@@ -21,7 +22,7 @@ Inv-loop bests positions rows₀ cores start rate m n₀ rows n =
 abbrev μ-loop : tie.MeasureT-loop
 μ-loop bests positions rows₀ cores start rate m n₀ rows n = m + 1 - n
 
--- at a turn: the member's position is within the board, and there are fewer than 8 islands
+-- at a turn: the member's position is within the board, and there are fewer islands than a row has figures
 inside-list :
     (c : tie.In-loop Inv-loop μ-loop)
     → c .before .before .before .before .before .args .start + c .before .loop .n * c .before .before .before .before .before .args .cores
@@ -36,10 +37,11 @@ inside-list c =
 
 inside :
     (c : tie.In-loop Inv-loop μ-loop)
-    → c .before .before .before .before .before .args .start + c .before .loop .n * c .before .before .before .before .before .args .cores < 64
+    → c .before .before .before .before .before .args .start + c .before .loop .n * c .before .before .before .before .before .args .cores
+    < most-places
 inside c = omega (arith, inside-list c, c .before .before .before .before .before .pre .0 .sized .few-places)
 
-short : (c : tie.In-loop Inv-loop μ-loop) → c .before .loop .n < 8
+short : (c : tie.In-loop Inv-loop μ-loop) → c .before .loop .n < most-islands
 short c = omega (arith, c .before .before .before .before .before .pre .0 .few)
 
 -- what is stored is the recurrence's figure
@@ -49,7 +51,7 @@ figure :
     * getD (c .before .before .before .before .before .before .args .positions .now)
     (c .before .before .before .before .before .before .args .start
     + c .before .before .loop .n * c .before .before .before .before .before .before .args .cores) 0
-    + c .best-at .result
+    + c .best-at .result .0
     ≡ fill (c .before .before .before .before .before .before .args .cores) (c .before .before .before .before .before .before .args .positions .now)
     (bestAt (c .before .before .before .before .before .before .args .cores) (c .before .before .before .before .before .before .args .bests .now))
     (c .before .before .before .before .before .before .args .rate .0) (c .before .before .before .before .before .before .args .start) 0
@@ -102,8 +104,8 @@ loop-again c =
     let n = c .before .before .before .loop .n in
     let rows = c .before .before .before .loop .rows in (
       omega arith,
-      length-set rows n (c .with-member .result) ∙ c .before .before .before .loop .inv .1,
-      row-grown rows 0 n n (c .with-member .result) (omega arith) (short (c .before .before))
+      length-set rows n (c .with-member .result .0) ∙ c .before .before .before .loop .inv .1,
+      row-grown rows 0 n n (c .with-member .result .0) (omega arith) (short (c .before .before))
           (fill (run .args .cores) (run .args .positions .now) (bestAt (run .args .cores) (run .args .bests .now)) (run .args .rate .0) (run .args .start) 0)
           (omega (arith, short (c .before .before), run .pre .1, c .before .before .before .loop .inv .1)) (c .with-member .ensures ∙ figure (c .before))
           (c .before .before .before .loop .inv .2),

@@ -6,6 +6,7 @@ use native.Mathlib.Nat.{not-suc-le-zero, le-refl}
 use native.Mathlib.Decide.{decLt}
 use native.Mathlib.Omega.{arith}
 use lib.ListN.{length, getD, length-set}
+use Rattle.model.specs.Limits.{most-islands, most-cores, most-places}
 use Rattle.optimum.specs.Best.{fill}
 use Rattle.planner.specs.Square.{bestAt}
 use Rattle.planner.specs.Rows.{rowAt, Filling}
@@ -24,7 +25,8 @@ Inv-loop bests positions rows₀ cores start rate r m n₀ rows n =
 abbrev μ-loop : tie.MeasureT-loop
 μ-loop bests positions rows₀ cores start rate r m n₀ rows n = m + 1 - n
 
--- at a turn: the member's position is within the board, and there are fewer than 8 islands and rows
+-- at a turn: the member's position is within the board, and there are fewer islands than a row has figures, and fewer rows
+-- than there is room for
 inside-list :
     (c : tie.In-loop Inv-loop μ-loop)
     → c .before .before .before .before .before .args .start
@@ -42,13 +44,13 @@ inside :
     (c : tie.In-loop Inv-loop μ-loop)
     → c .before .before .before .before .before .args .start
     + (c .before .loop .n * c .before .before .before .before .before .args .cores + (c .before .before .before .before .before .args .r + 1))
-    < 64
+    < most-places
 inside c = omega (arith, inside-list c, c .before .before .before .before .before .pre .0 .sized .few-places)
 
-short : (c : tie.In-loop Inv-loop μ-loop) → c .before .loop .n < 8
+short : (c : tie.In-loop Inv-loop μ-loop) → c .before .loop .n < most-islands
 short c = omega (arith, c .before .before .before .before .before .pre .0 .few)
 
-low : (c : tie.In-loop Inv-loop μ-loop) → c .before .before .before .before .before .args .r + 1 < 8
+low : (c : tie.In-loop Inv-loop μ-loop) → c .before .before .before .before .before .args .r + 1 < most-cores
 low c =
     omega
     (arith, c .before .before .before .before .before .pre .0 .sized .few-cores, c .before .before .before .before .before .pre .1 .1 .0)
@@ -61,7 +63,7 @@ figure :
     (c .before .before .before .before .before .before .before .args .start
     + (c .before .before .before .loop .n * c .before .before .before .before .before .before .before .args .cores
     + (c .before .before .before .before .before .before .before .args .r + 1))) 0
-    + c .least-gap .result .cost
+    + c .least-gap .result .cost .0
     ≡ fill (c .before .before .before .before .before .before .before .args .cores)
     (c .before .before .before .before .before .before .before .args .positions .now)
     (bestAt (c .before .before .before .before .before .before .before .args .cores) (c .before .before .before .before .before .before .before .args .bests .now))
@@ -77,7 +79,8 @@ figure c =
 
 room :
     (c : tie.After-with-member Inv-loop μ-loop)
-    → (c .before .before .before .before .before .before .before .before .args .r + 1) * 8 + c .before .before .before .before .loop .n
+    → (c .before .before .before .before .before .before .before .before .args .r + 1) * most-islands
+    + c .before .before .before .before .loop .n
     < length (c .before .before .before .before .loop .rows)
 room c =
     omega (
@@ -155,14 +158,14 @@ loop-again c =
     let n = c .before .before .before .before .loop .n in
     let rows = c .before .before .before .before .loop .rows in
     let inv = c .before .before .before .before .loop .inv in
-    let place = (run .args .r + 1) * 8 + n in
-    let at : place ≡ suc (run .args .r) * 8 + n = omega arith in (
+    let place = (run .args .r + 1) * most-islands + n in
+    let at : place ≡ suc (run .args .r) * most-islands + n = omega arith in (
       omega arith,
-      length-set rows place (c .with-member .result) ∙ inv .1,
-      rows-kept rows (suc (run .args .r)) n place (c .with-member .result) at (short (c .before .before .before))
+      length-set rows place (c .with-member .result .0) ∙ inv .1,
+      rows-kept rows (suc (run .args .r)) n place (c .with-member .result .0) at (short (c .before .before .before))
           (fill (run .args .cores) (run .args .positions .now) (bestAt (run .args .cores) (run .args .bests .now)) (run .args .rate .0) (run .args .start))
           (run .args .r) (run .args .m) (omega arith) (run .pre .0 .few) (inv .2),
-      row-grown rows (suc (run .args .r)) n place (c .with-member .result) at (short (c .before .before .before))
+      row-grown rows (suc (run .args .r)) n place (c .with-member .result .0) at (short (c .before .before .before))
           (fill (run .args .cores) (run .args .positions .now) (bestAt (run .args .cores) (run .args .bests .now)) (run .args .rate .0) (run .args .start)
           (suc (run .args .r)))
           (room c) (c .with-member .ensures ∙ figure (c .before)) (inv .3),

@@ -7,7 +7,7 @@ use borrow.Author.Needs.{needs}
 use Rattle.optimum.specs.Best.{itself, loadAt, topLoad}
 use Rattle.planner.specs.Square.{runCost}
 use Rattle.planner.specs.Rows.{rowAt}
-use Rattle.planner.proofs.Fitting.{cost-most}
+use Rattle.planner.proofs.Fitting.{run-most}
 use Rattle.planner.proofs.search.run_cost.Statement.{statement}
 use Rattle.planner.proofs.search.run_cost.Tie as tie
 
@@ -23,55 +23,55 @@ add-last c = search needs
 add-last-2 : tie.Need-add-last-2
 add-last-2 c = search needs
 
-mul-t10 : tie.Need-mul-t10
-mul-t10 c = search needs
+mul-t12 : tie.Need-mul-t12
+mul-t12 c = search needs
 
-shared-slice-read-t17 : tie.Need-shared-slice-read-t17
-shared-slice-read-t17 c = search needs
+shared-slice-read-t19 : tie.Need-shared-slice-read-t19
+shared-slice-read-t19 c = search needs
 
 fill-rows-requires : tie.Need-fill-rows-requires
 fill-rows-requires c κs = search needs
 
-mul-t12 : tie.Need-mul-t12
-mul-t12 c = search needs
+mul-t14 : tie.Need-mul-t14
+mul-t14 c = search needs
 
-shared-slice-read-t17-2 : tie.Need-shared-slice-read-t17-2
-shared-slice-read-t17-2 c = search needs
+shared-slice-read-t19-2 : tie.Need-shared-slice-read-t19-2
+shared-slice-read-t19-2 c = search needs
 
 by-itself-requires : tie.Need-by-itself-requires
 by-itself-requires c κs = search needs
 
-sub-result : tie.Need-sub-result
-sub-result c = search needs
+sub-t13 : tie.Need-sub-t13
+sub-t13 c = search needs
 
-mul-result : tie.Need-mul-result
-mul-result c = search needs
+mul-t12-2 : tie.Need-mul-t12-2
+mul-t12-2 c = search needs
 
-add-result : tie.Need-add-result
-add-result c = search needs
+add-t14 : tie.Need-add-t14
+add-t14 c = search needs
 
-mul-result-2 : tie.Need-mul-result-2
-mul-result-2 c = search needs
+mul-t23 : tie.Need-mul-t23
+mul-t23 c = search needs
 
-slice-read-result : tie.Need-slice-read-result
-slice-read-result c = search needs
+slice-read-t19 : tie.Need-slice-read-t19
+slice-read-t19 c = search needs
 
 returns : tie.Need-returns
 unfolding runCost topLoad loadAt rowAt
 returns c =
-    let run = c .before .before .before .before .before .before .before .before .before .before .before .before .before .args in
-    let rows = c .before .before .before .before .before .before .fill-rows .last .1 .1 .0 in
-    ap (λ (n : ℕ). n + rowAt rows (run .cores - 1) (run .m)) (c .before .before .by-itself .ensures)
+    let run = c .before .before .before .before .before .before .before .before .before .before .before .before .before .before .args in
+    let rows = c .before .before .before .before .before .before .before .fill-rows .last .1 .1 .0 in
+    ap (λ (n : ℕ). n + rowAt rows (run .cores - 1) (run .m)) (c .before .before .before .by-itself .ensures)
     ∙ ap (λ (n : ℕ). itself (run .own .0) (topLoad (run .cores) (run .positions .now) (run .start) (run .m)) + n)
-    (c .before .before .before .before .before .before .fill-rows .ensures (run .cores - 1) (run .m) (le-refl _) (le-refl _))
+    (c .before .before .before .before .before .before .before .fill-rows .ensures (run .cores - 1) (run .m) (le-refl _) (le-refl _))
 
-add-result-2 : tie.Need-add-result-2
-add-result-2 c =
-    let run = c .before .before .before .before .before .before .before .before .before .before .before .before .before in
+add-t19 : tie.Need-add-t19
+add-t19 c =
+    let run = c .before .before .before .before .before .before .before .before .before .before .before .before .before .before in
     omega (
       arith,
       returns c,
-      cost-most (run .args .cores) (run .args .own .0) (run .args .start) (run .args .m) (run .args .positions .now) (run .args .rates .now)
+      run-most (run .args .cores) (run .args .own .0) (run .args .start) (run .args .m) (run .args .positions .now) (run .args .rates .now)
           (run .args .bests .now) (run .pre .0) (run .pre .1 .0 .1),
       run .pre .0 .few,
     )
@@ -87,17 +87,17 @@ run-cost-spec =
     sub-last
     add-last
     add-last-2
-    mul-t10
-    shared-slice-read-t17
-    fill-rows-requires
     mul-t12
-    shared-slice-read-t17-2
+    shared-slice-read-t19
+    fill-rows-requires
+    mul-t14
+    shared-slice-read-t19-2
     by-itself-requires
-    sub-result
-    mul-result
-    add-result
-    mul-result-2
-    slice-read-result
-    add-result-2
+    sub-t13
+    mul-t12-2
+    add-t14
+    mul-t23
+    slice-read-t19
+    add-t19
     same-length
     returns)

@@ -4,8 +4,8 @@ use mathlib.Core.Path.{_≡_, refl, sym, ap, _∙_, subst}
 use native.Mathlib.Nat.{mul-le-mul}
 use native.Mathlib.Omega.{arith}
 use lib.ListN.{length, length-set}
-use Rattle.model.specs.Limits.{most-cores, most-islands}
-use Rattle.planner.specs.Square.{place}
+use Rattle.model.specs.Limits.{most-cores, most-islands, most-places}
+use Rattle.planner.specs.Square.{squareSize, place}
 use Rattle.planner.specs.Bounds.{Sized}
 use Rattle.planner.proofs.Square.{place-within}
 use Rattle.planner.proofs.Fitting.{still-sized}
@@ -23,8 +23,10 @@ Inv-loop bests₀ positions rates rows₀ cores own m size start₀ bests rows s
 abbrev μ-loop : tie.MeasureT-loop
 μ-loop bests₀ positions rates rows₀ cores own m size start₀ bests rows start = length positions - start
 
--- the islands of the runs have at most 64 positions
-few : (c : tie.After-slice-known2 Inv-loop μ-loop) → (c .before .before .before .before .args .m + 1) * c .before .before .before .before .args .cores ≤ 64
+-- the islands of the runs have no more positions than a board
+few :
+    (c : tie.After-slice-known2 Inv-loop μ-loop)
+    → (c .before .before .before .before .args .m + 1) * c .before .before .before .before .args .cores ≤ most-places
 few c =
     mul-le-mul {n₂ = most-islands} {m₂ = most-cores} (omega (arith, c .before .before .before .before .pre .1 .1 .0 .1))
     (c .before .before .before .before .pre .0 .few-cores)
@@ -67,10 +69,10 @@ stored c =
     c .place .ensures
     ∙ ap (λ (v : ℕ). place (run .cores) (c .before .before .before .before .before .before .before .loop .start) v) (omega arith)
 
-found : (c : tie.After-place Inv-loop μ-loop) → c .place .result < 4096
+found : (c : tie.After-place Inv-loop μ-loop) → c .place .result < squareSize
 found c =
     let turn = c .before .before .before .before .before .before in
-    subst (λ (n : ℕ). n < 4096) (sym (stored c))
+    subst (λ (n : ℕ). n < squareSize) (sym (stored c))
     (place-within _ _ _ (omega (arith, sized turn .some-core)) (omega (arith, inside turn, sized turn .few-places)))
 
 run-cost-requires : tie.Need-run-cost-requires Inv-loop μ-loop
@@ -113,10 +115,11 @@ loop-again c =
     let turn = c .before .before .before .before .before .before in
     let inv = turn .before .loop .inv in (
       omega (arith, inside turn, sized turn .some-core),
-      length-set (turn .before .loop .bests) (c .place .result) (c .before .before .before .run-cost .result) ∙ inv .1,
+      length-set (turn .before .loop .bests) (c .place .result) (c .before .before .before .run-cost .result .0) ∙ inv .1,
       c .before .before .before .run-cost .kept .1 .1 .1 .0 ∙ inv .2,
-      growing-more _ _ _ _ _ _ (turn .before .loop .bests) (turn .before .loop .start) (c .place .result) (c .before .before .before .run-cost .result)
-          (sized turn) (inside turn) (stored c) (c .before .before .before .run-cost .ensures) (inv .3),
+      growing-more _ _ _ _ _ _ (turn .before .loop .bests) (turn .before .loop .start) (c .place .result)
+          (c .before .before .before .run-cost .result .0) (sized turn) (inside turn) (stored c)
+          (c .before .before .before .run-cost .ensures) (inv .3),
     )
 
 same-length : tie.Need-same-length Inv-loop μ-loop

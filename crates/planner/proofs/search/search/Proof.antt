@@ -3,6 +3,7 @@ use Prim.Native.Nat.{_-_, _≤_}
 use mathlib.Core.Path.{_≡_, refl, sym, _∙_}
 use native.Mathlib.Omega.{arith}
 use lib.ListN.{length}
+use Rattle.model.specs.Limits.{most-places}
 use Rattle.planner.specs.Square.{Found}
 use Rattle.planner.specs.Bounds.{Sized, Bounded}
 use Rattle.planner.proofs.Fitting.{still-sized}
@@ -14,7 +15,7 @@ abbrev Inv-loop : tie.InvT-loop
 Inv-loop bests₀ positions rates cores own islands rows₀ m₀ bests rows m =
     (m ≤ islands)
     × (length bests ≡ length bests₀)
-    × (length rows ≡ 64)
+    × (length rows ≡ most-places)
     × Bounded cores positions bests m
     × Found cores (own .0) positions rates bests m
 

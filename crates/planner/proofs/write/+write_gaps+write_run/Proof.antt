@@ -1,6 +1,6 @@
 -- `write_run` and `write_gaps` meet their contracts. A run of v islands counts 16 v, and the walker with m islands in the gaps below r + 1
 -- members 16 m + r + 1: a run hands on one island less, and the walker a gap's run, or one member less.
--- What the stores come to is in Writing, what keeps the sums within 64 bits in Sums. Assumes nothing.
+-- What the stores come to is in Writing, what keeps the sums within 64 bits in Fitting. Assumes nothing.
 use Prim.Native.Nat.{ℕ, _+_, _*_, _<_}
 use mathlib.Core.Path.{refl, _∙_}
 use native.Mathlib.Nat.{le-refl, sub-le, le-trans}
