@@ -24,7 +24,7 @@ counted() {
     status=$?
     counts=$(sed -n '$s/^\([0-9][0-9]*\) passed, \([0-9][0-9]*\) failed$/\1 \2/p' "$said" 2>/dev/null)
     good=${counts% *} bad=${counts#* }
-    [ ! -f "$said" ] || sed '$d' "$said"
+    [ ! -f "$said" ] || sed '/^[0-9]* passed, [0-9]* failed$/d' "$said"
     echo "board_cases at $1: ${good:-0} passed, ${bad:-0} failed (exit status $status)"
     passed=$((passed + ${good:-0})) failed=$((failed + ${bad:-0}))
     if [ -z "$counts" ] || { [ "$status" -ne 0 ] && [ "$bad" -eq 0 ]; }; then failed=$((failed + 1)); fi

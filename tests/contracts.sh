@@ -3,6 +3,8 @@
 # `pub(crate)` functions are the crate's own affair. The check is first tried on heads that it has to find fault with.
 set -u
 cd "$(dirname "$0")/.." || exit 1
+. tests/tools.sh
+need awk mawk
 
 # heads FILE..: one line for each public function at fault, then the counts. A body's brace stands on the line of the name, behind the
 # parenthesis that ends the parameters, or alone; a head that none of these ends is at fault too.

@@ -9,7 +9,7 @@ passed=0 failed=0
 log=$(mktemp) || exit 1
 trap 'rm -f "$log"' EXIT
 
-# part TITLE COMMAND..: runs the command, shows what it writes, and adds the counts of its last line. A part that exits with
+# part TITLE COMMAND..: runs the command, shows what it writes, and adds the counts of the last line that has some. A part that exits with
 # another status than 0, or counts nothing, has failed whatever it counted.
 part() {
     say "$1"

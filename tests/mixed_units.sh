@@ -3,10 +3,13 @@
 # a must-fail edit of a crate can't show this, because it never reaches the prover.
 set -u
 cd "$(dirname "$0")/.." || exit 1
+. tests/tools.sh
+need_rt
+need awk mawk
 passed=0 failed=0
 copy=$(mktemp -d) || exit 1
 trap 'rm -rf "$copy"' EXIT
-cp -R crates crates.txt "$copy/"
+cp -R crates crates.txt "$copy/" || exit 1
 # what is proved already need not be proved again in the copy
 [ ! -d target ] || cp -R target "$copy/"
 
@@ -30,4 +33,4 @@ for edit in tests/mixed-units/*.edit; do
     fi
 done
 echo "$passed passed, $failed failed"
-[ "$failed" -eq 0 ]
+[ "$failed" -eq 0 ] && [ "$passed" -gt 0 ]

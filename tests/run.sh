@@ -8,7 +8,7 @@ need_rt
 say "proving $(sed -n 's/^\([a-z_]*\):.*/\1/p' crates.txt | tr '\n' ' ')(the planner about a minute, the others seconds; what is unchanged is not proved again)"
 log=$(mktemp) || exit 1
 trap 'rm -f "$log"' EXIT
-{ rt check 2>&1; echo "exit status $?"; } | tee "$log" | grep --line-buffered '^rt: '
+{ rt check 2>&1; echo "exit status $?"; } | tee "$log" | sed -n '/^rt: /p'
 if ! grep -q '^exit status 0$' "$log"; then
     say "not proved; what the check said:"
     cat "$log"

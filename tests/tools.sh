@@ -3,7 +3,7 @@
 say() { printf '== %s\n' "$*"; }
 
 # add PACKAGE..: installs Debian's packages
-add() { { apt-get update && apt-get install -y --no-install-recommends "$@"; } >/dev/null 2>&1; }
+add() { { apt-get update && DEBIAN_FRONTEND=noninteractive apt-get install -y --no-install-recommends "$@"; } </dev/null >/dev/null 2>&1; }
 
 # need COMMAND PACKAGE: installs Debian's package where the command is missing
 need() {

@@ -36,7 +36,7 @@ tried-refused [] ds n some none = absurd (omega arith)
 tried-refused (c ∷ cs) ds n some (inl refused) = inl refused
 tried-refused (c ∷ cs) ds n some (inr passed) = inr (passed .0, tried-refused cs ds n some (passed .1))
 
--- each has a number above 0, so that 0 is left for "none is refused"
+-- each has a number above 0, so that 0 is left where none is refused
 abbrev pub Numbers : List Condition → Type 0
 Numbers [] = Unit {0}
 Numbers (c ∷ cs) = (0 < c .number) × Numbers cs

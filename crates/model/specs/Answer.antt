@@ -1,6 +1,7 @@
 -- What the caller gets back: the one record that the planner's contract cites.
 --     numberOf    the number that 01 gives to each case of the answer
 --     totalOf     its total in picowatts
+--     Kept        everything as it was, and no total
 --     Accepted    the total, the plan and both buffers where nothing is refused
 --     Answered    the answer to a job, whatever the job is
 -- Assumes nothing.

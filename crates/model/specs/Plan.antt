@@ -1,4 +1,5 @@
 -- Full plans: every position has an island, and every island holds exactly Q positions.
+--     padding     how many zeros stand in front
 --     padded      the loads at all positions: zeros in front
 --     count       how many positions an island holds
 --     members     the positions of an island, the highest first

@@ -6,8 +6,10 @@
 --     active       whether some load is above 0
 --     drawn        what an island draws, by the loads on it
 --     power        the sum over the islands
+--     own          the island power of a job, in picowatts
 --     total        that sum for a job, in picowatts, with each level's cost rounded up
---     levels       the level number of each island, 0 where it is inactive
+--     levelNumber  the level number of an island, 0 where it is inactive
+--     levels       that of each island
 --     workload     W, the sum of a job's loads in kHz
 -- A plan is a list of island numbers, one a load. Assumes nothing.
 use Prim.Native.Nat.{ℕ, zero, suc, _+_, _*_, max}
@@ -43,7 +45,7 @@ sum (w ∷ ws) = w + sum ws
 unfoldable pub active : List ℕ → Bool
 active ws = ltb 0 (heaviest ws)
 
--- "An active island draws the island power plus the cost of its level times the sum of its loads." "An inactive island draws
+-- "An active island draws the island power […] plus the cost of its level times the sum of its loads." "An inactive island draws
 -- nothing." Here `own` is the island power and `rate` the cost by heaviest load, both in the unit of the result.
 unfoldable pub drawn : ℕ → (ℕ → ℕ) → List ℕ → ℕ
 drawn own rate ws = cond (active ws) (own + rate (heaviest ws) * sum ws) 0

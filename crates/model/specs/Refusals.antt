@@ -4,6 +4,7 @@
 --     Tried         a number is that of the first condition that does not hold, or 0 where all hold
 --     AllHold       all conditions of a list hold
 --     FirstCause    the same of a number above 0, in plain words: all before it hold, and it does not
+--     FitSizes, Ordered, lastOf, RoomEnough    what 1, 7, 8 and 9 speak of
 --     sizeConditions, tableConditions, powerConditions, loadConditions, roomConditions    the rows 1; 2 to 4; 5; 6 to 8; 9
 --     conditions    the nine of a job and of the lengths of the two lent buffers
 --     causeNumber   the number of each case of the enum

@@ -51,6 +51,7 @@ pub mod Passing
 pub mod Answering
 pub mod DemandOne
 pub mod BoardCases
+pub mod NoLoads
 pub mod Returned
 pub mod Promises
 pub mod Examples

@@ -1,6 +1,6 @@
 -- Counting over a plan whose entries are all islands of one range.
 --     Named              every entry is one of the islands base + 1 to base + v
---     Outside, in-or-out an island is one of a range, or below or above it
+--     Outside, in-or-out    an island is one of a range, or below or above it
 --     within-else        an island that is counted lies in a range, if one outside of it would be counted 0 times
 --     islands-outside, islands-within    an island that stands in `islands` is one of the range
 --     named-outside, named-within        so is one that is counted in such a plan

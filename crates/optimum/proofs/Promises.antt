@@ -12,13 +12,14 @@
 --     demand-2            the plan of an accepted answer has the reported total, no placement's is lower, it has no crossing, is numbered by
 --                         highest position, has island V last, and is the one that the tie rule names
 --     demand-3            what its total and its plan are worth with exact fractions as costs
+--     no-loads            an empty list of loads is accepted: total 0, all V levels 0
 --     board-cases, board-cases-once    the board cases to prove: each row is the answer to its job, and the only one
 -- Assumes nothing.
 use Prim.Native.Nat.{ℕ, _+_, _*_, _≤_, _<_}
 use mathlib.Core.Path.{_≡_}
 use mathlib.Core.Logic.{_⊎_, _↔_}
-use mathlib.Core.List.{List}
-use lib.ListN.{length}
+use mathlib.Core.List.{List, [], _++_}
+use lib.ListN.{length, drop, replicate}
 use Rattle.model.specs.Job.{Job}
 use Rattle.model.specs.Power.{held, drawn}
 use Rattle.model.specs.Placement.{Placement}
@@ -46,6 +47,7 @@ use Rattle.optimum.proofs.Passing.{placement-exists, count-or-speed}
 use Rattle.optimum.proofs.Answering.{answer-once}
 use Rattle.optimum.proofs.DemandOne.{answer-demand-1, answer-found}
 use Rattle.optimum.proofs.BoardCases.{cases-answered, cases-only}
+use Rattle.optimum.proofs.NoLoads.{idle-passes, idle-answer}
 use Rattle.optimum.proofs.Returned.{returned-demand-2, returned-demand-3}
 
 -- Q cores to an island, the island power, a cost by heaviest load, and the loads at all positions
@@ -138,6 +140,19 @@ module _ (job : Job) where
 
       pub demand-3 : Demand3 job reported (returned job planned)
       demand-3 = returned-demand-3 job plan₀ levels₀ reported planned leveled answer
+
+-- "An empty list of loads is accepted: total 0, all V levels 0."
+pub no-loads :
+    (job : Job) (plan₀ levels₀ : List ℕ)
+    → job .loads ≡ []
+    → WellFormed job
+    → job .islands ≤ length levels₀
+    → Tried (conditions job (length plan₀) (length levels₀)) 0
+    × ((reported : ℕ) (planned leveled : List ℕ)
+    → Answered job plan₀ levels₀ 0 reported planned leveled
+    → (reported ≡ 0) × (leveled ≡ replicate (job .islands) 0 ++ drop (job .islands) levels₀))
+no-loads job plan₀ levels₀ none well room =
+    (idle-passes job none (length plan₀) (length levels₀) well room, idle-answer job none plan₀ levels₀)
 
 -- "Cases 1 to 12 are one list with one claim, proved from the definitions"
 pub board-cases : Each Claimed proved

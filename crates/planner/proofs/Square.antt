@@ -1,5 +1,6 @@
 -- The place of a run in the table of bests.
 --     place-within    the place of a run within the board is one of the square's
+--     place-one       no two runs share a place
 --     best-none       what the table has for a run of no islands
 --     best-some       what the table has for a run of some islands
 --     best-stored     a figure that is stored for a run is what the table then has for it

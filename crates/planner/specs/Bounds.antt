@@ -5,9 +5,9 @@
 --     most-draw      what an island draws is at most this: its own power and a member on every core
 --     AllBelow       each of m + 1 figures is below a bound
 --     Light          every load is within the highest frequency that a table may have
---     Sized          no more positions than a board may have, loads in range, a whole square
+--     Sized          some cores and no more than there may be, no more positions than a board may have, loads in range, a whole square
 --     Cheap          a charge for every position, none too high
---     Bounded        the table has at most so much for the runs of at most v islands
+--     Bounded        the table has for a run of g islands, g at most v, no more than g islands may draw
 --     RunFits        a run of m + 1 islands from i on, over these and with a charge ρ
 -- Assumes nothing.
 use Prim.Native.Nat.{ℕ, suc, _+_, _*_, _/_, _≤_, _<_}

@@ -1,4 +1,5 @@
--- What is known of each position, by its place in a list beside the loads.
+-- What is known of each position, by its place in a list beside the loads. The list `steps` has levels counted from 0; level numbers are
+-- counted from 1.
 --     Looked          the level of each load, counted from 0
 --     Costed          the cost of each of these levels
 --     Charged         what an island is charged whose heaviest load is that one

@@ -1,7 +1,7 @@
 -- The rows of a run: for the lowest r + 1 members of its top island, the least cost with n islands in the gaps below them.
 --     rowAt    what row r has for n islands; rows stand one after another, a figure for each number of islands
 --     Filling  the rows of up to r + 1 members, of at most m islands, are those of the recurrence
--- Assumes nothing.
+-- All rows together are most-cores · most-islands figures, which is most-places. Assumes nothing.
 use Prim.Native.Nat.{ℕ, _+_, _*_, _≤_}
 use mathlib.Core.Path.{_≡_}
 use mathlib.Core.List.{List}

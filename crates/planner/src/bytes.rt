@@ -1,5 +1,6 @@
 // The bytes that the caller gets back: the level number of each island, and the copy into a lent buffer.
-// Functions here ask for buffers that are long enough, and for islands and levels in range; every caller within the crate shows it.
+// Functions here ask for loads in order, lists whose lengths go together, islands and levels in range, level numbers that are all 0, and
+// buffers that are long enough; every caller within the crate shows it.
 ghost use mathlib.Core.Path.{_≡_};
 ghost use mathlib.Core.List.{_++_};
 ghost use Prim.Native.Nat.{_-_, _<_, _≤_};

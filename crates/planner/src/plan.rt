@@ -1,5 +1,5 @@
 // The planner's entry: a job is judged first, then planned on the side, and the lent buffers are written when nothing can refuse any
-// more. Assumes nothing.
+// more. `plan` asks nothing; the functions before it ask for a job that nothing refuses, or for parts of one, and every caller shows it.
 use super::bytes::copy;
 use super::bytes::number_levels;
 use super::positions::charge_all;

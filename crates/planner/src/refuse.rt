@@ -1,5 +1,5 @@
 // Whether a job is refused, and by which cause: the nine are tried in their order. Nothing is written here.
-// Assumes nothing.
+// `judge_job` asks nothing; the functions for the loads ask for sizes that fit and for a level, which it has shown by then.
 use board::Board;
 use board::NewBoard;
 use model::Refusal;

@@ -1,6 +1,6 @@
 // The best totals of all runs: a square by first and last position, filled by the recurrence from the shortest runs up.
 // A run begins at a position, counted from 0, and has whole islands; its last position holds the heaviest load of its top island.
-// Arrays hold bare numbers (positions kilohertz, rates femtojoules, bests and rows picowatts), and each is given its unit where it is read.
+// Arrays hold bare numbers (positions kilohertz, rates femtojoules per cycle, bests and rows picowatts), and each is given its unit where it is read.
 // Functions here ask for lists of the right lengths, and for loads, charges and bests so low that every sum fits in 64 bits; every caller
 // within the crate shows it.
 use board::Board;

@@ -1,5 +1,6 @@
 // The level table: whether it is refused, and which level a load gets.
-// The two lists are lent as the caller has them; a value is wrapped in its unit where it is read. Assumes nothing.
+// The two lists are lent as the caller has them; a value is wrapped in its unit where it is multiplied or handed on, and range and order
+// are tested on the bare numbers. `judge` and `level` ask nothing; what they call asks for an index within the lists.
 use model::Refusal;
 use units::Kilohertz;
 use units::Microwatts;
@@ -22,7 +23,7 @@ const LEAST_POWER: u32 = 1;
 
 const MOST_POWER: u32 = 10000000;
 
-// What judging a table says of it.
+// What judging a table says of it; the planner's refusals say the same of a job.
 pub enum Judged {
     Sound,
     Refused(Refusal),
