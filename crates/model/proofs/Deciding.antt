@@ -1,20 +1,21 @@
 -- Every condition is decided, so every job has a number. What is here computes: the number of a job that is written out is found by
 -- unfolding.
 --     carried, both         decisions of a fact that says the same, and of two facts together
---     one-more, all-below, all-pairs    what is decided of every number is decided of all below a bound
+--     all-below, all-pairs  what is decided of every number is decided of all below a bound
 --     fit-sizes, well-shaped, between, rising, well-ranged, not-falling, ordered, room-enough    each fact that a condition names
 --     Decided, number-of    a list of conditions that are decided has a first that does not hold, or none
---     jobConditions       the first eight conditions of a job, which do not look at the buffers
+--     jobConditions         the first eight conditions of a job, which do not look at the buffers
 --     job-decided, job-number    they are decided, and give a number
 --     every-number          so do all nine
 -- Assumes nothing.
 use Prim.Native.Nat.{ℕ, zero, suc, _+_, _-_, _*_, _<_}
-use mathlib.Core.Path.{refl, subst}
+use mathlib.Core.Path.{refl}
 use mathlib.Core.Logic.{inl, inr}
 use mathlib.Core.List.{List, [], _∷_, _++_}
 use native.Mathlib.Nat.{not-suc-le-zero}
 use native.Mathlib.Decide.{decLe, decLt, ℕ-discrete}
 use native.Mathlib.Omega.{arith}
+use borrow.Author.Count.{below-more}
 use lib.ListN.{length, getD}
 use Rattle.model.specs.Limits.{most-islands, most-cores, most-levels, most-island-power}
 use Rattle.model.specs.Limits.{least-frequency, most-frequency, least-power, most-power}
@@ -23,7 +24,7 @@ use Rattle.model.specs.Job.{Job}
 use Rattle.model.specs.Refusals.{Condition, Tried, FitSizes, Ordered, lastOf, RoomEnough}
 use Rattle.model.specs.Refusals.{sizeConditions, tableConditions, powerConditions, loadConditions, roomConditions, conditions}
 
--- a decision of a fact is one of each fact that says the same
+-- a decision of a fact is one of each fact that says the same; the library's map-dec says this too, but it does not compute here
 unfoldable pub carried : {A B : Type 0} → (A → B) → (B → A) → Dec A → Dec B
 carried f g (yes a) = yes (f a)
 carried f g (no n) = no (λ b. n (g b))
@@ -35,20 +36,13 @@ both (yes a) (no n) = no (λ p. n (p .1))
 both (no n) b = no (λ p. n (p .0))
 
 module _ (P : ℕ → Type 0) where
-  -- one more number, above all the others
-  pub one-more : (n : ℕ) → ((k : ℕ) → k < n → P k) × P n → (k : ℕ) → k < suc n → P k
-  one-more n held k within =
-      elim (decLt k n) [
-        | yes below ↦ held .0 k below
-        | no above ↦ subst (λ (j : ℕ). P j) (omega arith) (held .1)
-      ]
-
   -- what is decided of every number is decided of all below a bound
   unfoldable pub all-below : ((k : ℕ) → Dec (P k)) → (n : ℕ) → Dec ((k : ℕ) → k < n → P k)
   unfolding carried both
   all-below dec zero = yes (λ k within. absurd (not-suc-le-zero within))
   all-below dec (suc n) =
-      carried (one-more n) (λ all. (λ k within. all k (omega arith), all n (omega arith))) (both (all-below dec n) (dec n))
+      carried (λ held k within. below-more P n (held .0) (held .1) k (omega arith))
+      (λ all. (λ k within. all k (omega arith), all n (omega arith))) (both (all-below dec n) (dec n))
 
   -- and of each that has another above it, below the bound
   unfoldable pub all-pairs : ((k : ℕ) → Dec (P k)) → (n : ℕ) → Dec ((k : ℕ) → k + 1 < n → P k)

@@ -4,6 +4,7 @@
 --     count       how many positions an island holds
 --     members     the positions of an island, the highest first
 --     highest     the highest of them
+--     Named       every entry is one of the islands base + 1 to base + v
 --     Full        the islands base + 1 to base + v hold exactly Q positions each, and there are no others
 --     Numbered    the islands are numbered by their highest position, lowest first
 --     shown       what the caller sees of a full plan: the entries of its own loads
@@ -41,9 +42,13 @@ members z p (y ∷ plan) = members z (suc p) plan ++ cond (eqb y z) (p ∷ []) [
 unfoldable pub highest : ℕ → List ℕ → ℕ
 highest z plan = getD (members z 1 plan) 0 0
 
+-- every entry is one of the islands base + 1 to base + v
+abbrev pub Named : ℕ → ℕ → List ℕ → Type 0
+Named base v plan = (j : ℕ) → j < length plan → (base < getD plan j 0) × (getD plan j 0 ≤ base + v)
+
 -- "The full islands hold exactly Q positions each"
 pub record Full (Q base v : ℕ) (plan : List ℕ) : Type 0 where
-  pub named : (j : ℕ) → j < length plan → (base < getD plan j 0) × (getD plan j 0 ≤ base + v)
+  pub named : Named base v plan
   pub filled : (z : ℕ) → base < z → z ≤ base + v → count z plan ≡ Q
 
 -- "and are numbered, in every plan worked out here, by their highest position, lowest first"

@@ -1,11 +1,11 @@
 -- The plan function, without a bound on its depth, and that its plans are run-shaped.
 --     by-none, by-is              the plan of no islands, and of m + 1 by those of smaller runs, over any table of bests
---     plan-none, plan-is          the same over the bests of the recurrence
+--     by-run, by-gaps             what they give is run-shaped
+--     plan-none, plan-is, run-chosen, gaps-run    the same over the bests of the recurrence
 --     gaps-lowest, gaps-member    the gap walker, by its members
 --     chosen-within               a gap gets no more islands than there are
 --     chosen-same, walker-same    the bests within the stretch, and the runs in the gaps, decide them
 --     within-same                 every bound on the depth that is enough gives one plan
---     run-chosen, gaps-run        what they give is run-shaped
 -- Assumes nothing.
 use Prim.Native.Nat.{ℕ, zero, suc, _+_, _-_, _*_, _≤_, _<_}
 use mathlib.Core.Path.{_≡_, refl, sym, ap, _∙_, subst}
@@ -106,6 +106,28 @@ module _ (Q : ℕ) (ws : List ℕ) (b : ℕ → ℕ → ℕ) (rate : ℕ → ℕ
       walker-same Q ws b b (planWithin Q ws b rate m) (planBy Q ws b rate) (rate (topLoad Q ws i m)) (base + suc m) i base (Q - 1) m
       (λ j g bound inside. refl) (λ j c g bound inside. within-same m g j c g bound (le-refl g))
 
+  -- what the function gives is run-shaped, whatever the table holds
+  run-within : 0 < Q → (n i base v : ℕ) → v ≤ n → Run Q base v (planBy Q ws b rate i base v)
+  run-within pos zero i base zero bound = Run.empty refl (by-none i base)
+  run-within pos zero i base (suc m) bound = absurd (not-suc-le-zero bound)
+  run-within pos (suc n) i base zero bound = Run.empty refl (by-none i base)
+  run-within pos (suc n) i base (suc m) bound =
+      subst (λ (l : List ℕ). Run Q base (suc m) l) (sym (by-is i base m))
+      (Run.top (Q - 1) m (sub-add-one pos) refl
+      (gaps-chosen Q ws b (planBy Q ws b rate) (rate (topLoad Q ws i m)) (base + suc m) i base (Q - 1) m
+      (λ j k g few. run-within pos n j k g (omega arith))))
+    where
+      sub-add-one : 0 < Q → suc (Q - 1) ≡ Q
+      sub-add-one h = omega arith
+
+  pub by-run : 0 < Q → (i base v : ℕ) → Run Q base v (planBy Q ws b rate i base v)
+  by-run pos i base v = run-within pos v i base v (le-refl v)
+
+  -- the walker's plans too, over the runs that the function gives
+  pub by-gaps :
+      0 < Q → (ρ x i base r m : ℕ) → Gaps Q x base r m (planGaps Q ws b (planBy Q ws b rate) ρ x i base r m)
+  by-gaps pos ρ x i base r m = gaps-chosen Q ws b (planBy Q ws b rate) ρ x i base r m (λ j k g bound. by-run pos j k g)
+
 module _ (Q own : ℕ) (rate : ℕ → ℕ) (ws : List ℕ) where
   pub plan-none : (i base : ℕ) → planRun Q own rate ws i base 0 ≡ []
   unfolding planRun
@@ -118,26 +140,10 @@ module _ (Q own : ℕ) (rate : ℕ → ℕ) (ws : List ℕ) where
   unfolding planRun
   plan-is = by-is Q ws (best Q own rate ws) rate
 
-  run-within : 0 < Q → (n i base v : ℕ) → v ≤ n → Run Q base v (planRun Q own rate ws i base v)
-  run-within pos zero i base zero bound = Run.empty refl (plan-none i base)
-  run-within pos zero i base (suc m) bound = absurd (not-suc-le-zero bound)
-  run-within pos (suc n) i base zero bound = Run.empty refl (plan-none i base)
-  run-within pos (suc n) i base (suc m) bound =
-      subst (λ (l : List ℕ). Run Q base (suc m) l) (sym (plan-is i base m))
-      (Run.top (Q - 1) m (sub-add-one pos) refl
-      (gaps-chosen Q ws (best Q own rate ws) (planRun Q own rate ws) (rate (topLoad Q ws i m)) (base + suc m) i base (Q - 1) m
-      (λ j k g b. run-within pos n j k g (omega arith))))
-    where
-      sub-add-one : 0 < Q → suc (Q - 1) ≡ Q
-      sub-add-one h = omega arith
-
   pub run-chosen : 0 < Q → (i base v : ℕ) → Run Q base v (planRun Q own rate ws i base v)
-  run-chosen pos i base v = run-within pos v i base v (le-refl v)
+  unfolding planRun
+  run-chosen = by-run Q ws (best Q own rate ws) rate
 
-  -- the walker's plans too, over the runs that the function gives
-  pub gaps-run :
-      0 < Q
-      → (ρ x i base r m : ℕ)
-      → Gaps Q x base r m (walk Q own rate ws ρ x i base r m)
-  gaps-run pos ρ x i base r m =
-      gaps-chosen Q ws (best Q own rate ws) (planRun Q own rate ws) ρ x i base r m (λ j k g bound. run-chosen pos j k g)
+  pub gaps-run : 0 < Q → (ρ x i base r m : ℕ) → Gaps Q x base r m (walk Q own rate ws ρ x i base r m)
+  unfolding planRun
+  gaps-run = by-gaps Q ws (best Q own rate ws) rate

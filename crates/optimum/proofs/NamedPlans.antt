@@ -1,5 +1,4 @@
 -- Counting over a plan whose entries are all islands of one range.
---     Named              every entry is one of the islands base + 1 to base + v
 --     Outside, in-or-out    an island is one of a range, or below or above it
 --     within-else        an island that is counted lies in a range, if one outside of it would be counted 0 times
 --     islands-outside, islands-within    an island that stands in `islands` is one of the range
@@ -20,15 +19,12 @@ use native.Mathlib.Decide.{ℕ-discrete, decLt}
 use native.Mathlib.Omega.{arith}
 use borrow.Author.Tests.{eq-eqb, ne-eqb}
 use lib.ListN.{length, getD}
-use Rattle.model.specs.Plan.{count, Full}
+use Rattle.model.specs.Plan.{count, Named, Full}
 use Rattle.model.specs.Power.{held, sum, drawn, power}
 use Rattle.optimum.specs.Fair.{over}
 use Rattle.optimum.proofs.Counts.{count-same, count-other, count-later, count-none, count-at}
 use Rattle.optimum.proofs.Spread.{islands, weighed, alone, islands-below, islands-above, islands-once, islands-length}
 use Rattle.optimum.proofs.Spread.{each-over, over-same, over-sum, over-one, spread}
-
-abbrev pub Named : ℕ → ℕ → List ℕ → Type 0
-Named base v plan = (j : ℕ) → j < length plan → (base < getD plan j 0) × (getD plan j 0 ≤ base + v)
 
 -- outside the range of the islands base + 1 to base + v
 abbrev pub Outside : ℕ → ℕ → ℕ → Type 0

@@ -14,7 +14,7 @@ use borrow.Author.Tests.{lt-ltb}
 use lib.ListN.{length, getD, replicate, length-append, length-replicate}
 use Rattle.model.specs.Job.{Job}
 use Rattle.model.specs.Table.{WellRanged}
-use Rattle.model.specs.Plan.{count, Full, padding}
+use Rattle.model.specs.Plan.{count, Full, padding, Named}
 use Rattle.model.specs.Placement.{Placement, FastEnough}
 use Rattle.model.specs.Power.{held, heaviest, active}
 use Rattle.model.specs.Refusals.{lastOf}
@@ -22,7 +22,7 @@ use Rattle.optimum.specs.Fair.{over}
 use Rattle.optimum.proofs.Counts.{count-same, count-other, count-append}
 use Rattle.optimum.proofs.Held.{held-same, held-other, held-length}
 use Rattle.optimum.proofs.Spread.{islands, islands-once, islands-length, over-same, over-sum}
-use Rattle.optimum.proofs.NamedPlans.{Named, islands-within, named-within, named-counted, over-level, counts-length}
+use Rattle.optimum.proofs.NamedPlans.{islands-within, named-within, named-counted, over-level, counts-length}
 use Rattle.optimum.proofs.OrderedLoads.{ordered-last}
 
 -- f z copies of each island z of a list

@@ -13,13 +13,13 @@ use lib.Seq.{take-at, drop-append-le, getD-drop, getD-append-add}
 use Rattle.model.specs.Limits.{most-levels}
 use Rattle.model.specs.Level.{lowest}
 use Rattle.model.specs.Job.{Job}
-use Rattle.model.specs.Plan.{padding, padded, shown}
+use Rattle.model.specs.Plan.{padding, padded, shown, Named}
 use Rattle.optimum.specs.OfJob.{planOf}
 use Rattle.optimum.specs.Passed.{Passed}
 use Rattle.optimum.proofs.NamedPlans.{full-length}
 use Rattle.optimum.proofs.Padding.{padded-length}
 use Rattle.optimum.proofs.DemandTwo.{plan-uncrossed, plan-placement}
-use Rattle.planner.specs.Positions.{Looked, Below, Named, LevelNumbers}
+use Rattle.planner.specs.Positions.{Looked, Below, LevelNumbers}
 use Rattle.planner.specs.Settled.{Leveled}
 use Rattle.planner.proofs.Laying.{below, padded-carried}
 
@@ -89,7 +89,7 @@ module _ (job : Job) (passed : Passed job) (zeros : List ℕ) where
         (full : List ℕ)
         → full ≡ planOf job
         → ((length (partOf job zeros full) ≡ length (job .loads)) × (length (partOf job zeros steps) ≡ length (job .loads)))
-        × (Named (job .islands) (partOf job zeros full) × Below most-levels (partOf job zeros steps))
+        × (Named 0 (job .islands) (partOf job zeros full) × Below most-levels (partOf job zeros steps))
     unfolding padding
     ready full is =
         let plan = shown-plan full is in
@@ -99,7 +99,7 @@ module _ (job : Job) (passed : Passed job) (zeros : List ℕ) where
         omega (arith, length-drop (padding job) steps, passed .few) in (
           (ap (λ (l : List ℕ). length l) plan ∙ placed .one-a-load, ap (λ (l : List ℕ). length l) levels ∙ long),
           (
-            subst (λ (l : List ℕ). Named (job .islands) l) (sym plan) (placed .islands),
+            subst (λ (l : List ℕ). Named 0 (job .islands) l) (sym plan) (λ j h. (placed .islands j h .0, omega (arith, placed .islands j h))),
             subst (λ (l : List ℕ). Below most-levels l) (sym levels) low,
           ),
         )

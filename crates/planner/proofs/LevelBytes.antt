@@ -20,13 +20,14 @@ use lib.Seq.{length-take-le, take-suc, take-length, getD-set-same, getD-set-othe
 use Rattle.model.specs.Level.{levelOf}
 use Rattle.model.specs.Job.{Job}
 use Rattle.model.specs.Power.{each, held, heaviest, active, levelNumber, levels}
+use Rattle.model.specs.Plan.{Named}
 use Rattle.model.specs.Refusals.{Ordered}
 use Rattle.optimum.specs.Loads.{Sorted}
 use Rattle.optimum.proofs.Spread.{each-length}
 use Rattle.optimum.proofs.Held.{held-append, held-other, heaviest-append}
 use Rattle.optimum.proofs.OrderedLoads.{ordered-sorted}
 use Rattle.optimum.proofs.SortedLoads.{sorted-front, top-heaviest}
-use Rattle.planner.specs.Positions.{Looked, Named, Blank, LevelNumbers}
+use Rattle.planner.specs.Positions.{Looked, Blank, LevelNumbers}
 
 each-at : (g : ℕ → ℕ) (base v i : ℕ) → i < v → getD (each g base v) i 0 ≡ g (suc (base + i))
 unfolding each
@@ -148,7 +149,7 @@ module _ (ws plan steps : List ℕ) (islands : ℕ) where
           (i : ℕ)
           → after ≡ set numbers i (getD steps k 0 + 1)
           → 0 < getD ws k 0
-          → Named islands plan
+          → Named 0 islands plan
           → i ≡ getD plan k 0 - 1
           → SoFar (k + 1) after
       unfolding top number levelNumber active levelOf

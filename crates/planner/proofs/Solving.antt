@@ -13,7 +13,9 @@ use lib.Seq.{sets, sets-eq}
 use Rattle.model.specs.Limits.{most-islands, most-cores, most-places}
 use Rattle.model.specs.Refusals.{FitSizes}
 use Rattle.optimum.specs.Chosen.{planBy}
-use Rattle.optimum.proofs.ChosenSame.{plan-length, plan-of-bests}
+use Rattle.optimum.proofs.Shapes.{run-length}
+use Rattle.optimum.proofs.ChosenRun.{by-run}
+use Rattle.optimum.proofs.ChosenSame.{plan-of-bests}
 use Rattle.planner.specs.Square.{squareSize, bestAt, Found}
 use Rattle.planner.specs.Bounds.{Light, Sized}
 use Rattle.planner.specs.Written.{RunWritten}
@@ -54,7 +56,7 @@ pub board-solved :
     → Solved Q own ws rates v total after
 board-solved Q own v ws rates bests before after total some places room found written least rate charged =
     let plan = planBy Q ws (bestAt Q bests) rate 0 0 v in
-    let whole : length plan ≡ v * Q = plan-length Q ws (bestAt Q bests) rate some v 0 0 v (le-refl v) in
+    let whole : length plan ≡ v * Q = run-length Q 0 v plan (by-run Q ws (bestAt Q bests) rate some 0 0 v) in
     let same = found rate charged in (
       least ∙ same 0 v (le-refl v) (omega arith),
       written rate charged

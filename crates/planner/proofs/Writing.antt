@@ -16,8 +16,8 @@ use Rattle.optimum.specs.Best.{first, gapCost, loadAt, topLoad, fill}
 use Rattle.optimum.specs.Chosen.{chosen, planGaps, planBy}
 use Rattle.optimum.proofs.First.{first-within, first-same}
 use Rattle.optimum.proofs.Recurrence.{islands-parted}
-use Rattle.optimum.proofs.ChosenRun.{gaps-lowest, gaps-member, by-none, by-is}
-use Rattle.optimum.proofs.ChosenSame.{walker-length, plan-length}
+use Rattle.optimum.proofs.ChosenRun.{gaps-lowest, gaps-member, by-none, by-is, by-run, by-gaps}
+use Rattle.optimum.proofs.Shapes.{run-length, gaps-length}
 use Rattle.planner.specs.Square.{bestAt}
 use Rattle.planner.specs.Rows.{rowAt, Filling}
 use Rattle.planner.specs.Written.{RunWritten, GapsWritten}
@@ -58,7 +58,7 @@ module _ (Q : ℕ) (ws rates bests rows : List ℕ) where
   lowest-written before after x i base zero m some none run rate charged ρ filling =
       run rate charged
       ∙ sets-joined before i (i + (m * Q + 0)) (planBy Q ws b rate i base m) (x ∷ [])
-      (omega (arith, plan-length Q ws b rate some m i base m (le-refl m)))
+      (omega (arith, run-length Q base m (planBy Q ws b rate i base m) (by-run Q ws b rate some i base m)))
       ∙ ap (λ (l : List ℕ). sets before i l) (sym (gaps-lowest Q ws b (planBy Q ws b rate) ρ x i base m))
 
   member-at :
@@ -76,8 +76,12 @@ module _ (Q : ℕ) (ws rates bests rows : List ℕ) where
       rest rate charged ρ (λ s n hs hn. filling s n (omega arith) (omega arith))
       ∙ ap (λ (l : List ℕ). sets l i low) (gap rate charged)
       ∙ sets-three before i place (i + (m * Q + suc r)) x low (inner place (base + (m - g)) g)
-      (omega (arith, walker-length Q ws b inner ρ x i base r (m - g) (λ j k n h. plan-length Q ws b rate some n j k n (le-refl n))))
-      (omega (arith, plan-length Q ws b rate some g place (base + (m - g)) g (le-refl g), islands-parted m g Q within))
+      (omega (arith, gaps-length Q x base r (m - g) low (by-gaps Q ws b rate some ρ x i base r (m - g))))
+      (omega (
+        arith,
+        run-length Q (base + (m - g)) g (inner place (base + (m - g)) g) (by-run Q ws b rate some place (base + (m - g)) g),
+        islands-parted m g Q within,
+      ))
       ∙ ap (λ (k : ℕ).
       sets before i
       (planGaps Q ws b inner ρ x i base r (m - k) ++ (inner (i + ((m - k) * Q + suc r)) (base + (m - k)) k ++ (x ∷ []))))

@@ -4,11 +4,10 @@
 --     Costed          the cost of each of these levels
 --     Charged         what an island is charged whose heaviest load is that one
 --     Below           every entry of a list is below a bound
---     Named           every entry of a plan is the number of one of so many islands
 --     Blank           every entry of a list is 0
 --     LevelNumbers    the level bytes that the levels of the loads give, whatever the job's table
 -- Assumes nothing.
-use Prim.Native.Nat.{ℕ, _≤_, _<_}
+use Prim.Native.Nat.{ℕ, _<_}
 use mathlib.Core.Path.{_≡_}
 use mathlib.Core.List.{List}
 use lib.ListN.{length, getD}
@@ -28,9 +27,6 @@ Charged rate ws rates = (k : ℕ) → k < length ws → getD rates k 0 ≡ rate 
 
 abbrev pub Below : ℕ → List ℕ → Type 0
 Below bound xs = (k : ℕ) → k < length xs → getD xs k 0 < bound
-
-abbrev pub Named : ℕ → List ℕ → Type 0
-Named islands plan = (k : ℕ) → k < length plan → (0 < getD plan k 0) × (getD plan k 0 ≤ islands)
 
 abbrev pub Blank : List ℕ → Type 0
 Blank xs = (k : ℕ) → getD xs k 0 ≡ 0

@@ -41,13 +41,7 @@ Leveled ws plan steps islands before after =
     → Looked (job .table .frequencies) ws steps
     → after ≡ levels job plan ++ drop islands before
 
-abbrev planBytes : Job → List ℕ → List ℕ
-planBytes job plan₀ = shown job (planOf job) ++ drop (length (job .loads)) plan₀
-
-abbrev levelBytes : Job → List ℕ → List ℕ
-levelBytes job levels₀ = levels job (shown job (planOf job)) ++ drop (job .islands) levels₀
-
-pub record HandedBack (job : Job) (plan₀ levels₀ : List ℕ) (total : ℕ) (plan levels : List ℕ) : Type 0 where
+pub record HandedBack (job : Job) (plan₀ levels₀ : List ℕ) (total : ℕ) (planned leveled : List ℕ) : Type 0 where
   pub least : total ≡ bestOf job
-  pub plan-bytes : plan ≡ planBytes job plan₀
-  pub level-bytes : levels ≡ levelBytes job levels₀
+  pub plan-bytes : planned ≡ shown job (planOf job) ++ drop (length (job .loads)) plan₀
+  pub level-bytes : leveled ≡ levels job (shown job (planOf job)) ++ drop (job .islands) levels₀

@@ -6,8 +6,9 @@ ghost use mathlib.Core.List.{_++_};
 ghost use Prim.Native.Nat.{_-_, _<_, _≤_};
 ghost use lib.ListN.{length, drop};
 ghost use Rattle.model.specs.Limits.{most-levels};
+ghost use Rattle.model.specs.Plan.{Named};
 ghost use Rattle.model.specs.Refusals.{Ordered};
-ghost use Rattle.planner.specs.Positions.{Named, Below, Blank, LevelNumbers};
+ghost use Rattle.planner.specs.Positions.{Below, Blank, LevelNumbers};
 
 // The index of an island's level byte: islands are numbered from 1.
 fn index(island: u8) -> usize
@@ -22,7 +23,7 @@ pub(crate) fn number_levels(loads: &[u64], plan: &[u8], steps: &[u8], numbers: &
     requires { ⌜ Ordered (now loads) ⌝ }
     requires { ⌜ length (now plan) ≡ length (now loads) ⌝ }
     requires { ⌜ length (now steps) ≡ length (now loads) ⌝ }
-    requires { ⌜ Named (length (now numbers)) (now plan) ⌝ }
+    requires { ⌜ Named 0 (length (now numbers)) (now plan) ⌝ }
     requires { ⌜ Below most-levels (now steps) ⌝ }
     requires { ⌜ Blank (now numbers) ⌝ }
     ensures { λ _. ⌜ LevelNumbers (now (loads .entry)) (now (plan .entry)) (now (steps .entry)) (length (now (numbers .entry))) (now (numbers .exit)) ⌝ }

@@ -24,6 +24,7 @@ ghost use lib.ListN.{length, drop};
 ghost use Rattle.model.specs.Limits.{million, most-islands, most-levels, most-island-power};
 ghost use Rattle.model.specs.Table.{WellShaped, WellRanged};
 ghost use Rattle.model.specs.Level.{charge};
+ghost use Rattle.model.specs.Plan.{Named};
 ghost use Rattle.model.specs.Refusals.{FitSizes, Ordered, RoomEnough};
 ghost use Rattle.model.specs.Answer.{numberOf, totalOf, Answered};
 ghost use Rattle.optimum.specs.Best.{best};
@@ -31,7 +32,7 @@ ghost use Rattle.optimum.specs.Chosen.{planRun};
 ghost use Rattle.optimum.specs.Passed.{Passed};
 ghost use Rattle.table.specs.Judged.{tableOf};
 ghost use Rattle.planner.specs.Given.{jobOf};
-ghost use Rattle.planner.specs.Positions.{Looked, Named, Below};
+ghost use Rattle.planner.specs.Positions.{Looked, Below};
 ghost use Rattle.planner.specs.Bounds.{most-own, Light, Cheap};
 ghost use Rattle.planner.specs.Settled.{Carried, Solved, SettledJob, Leveled, HandedBack};
 
@@ -144,7 +145,7 @@ fn hand_back(
 )
     requires { ⌜ Ordered (now loads) ⌝ }
     requires { ⌜ (length (now shown) ≡ length (now loads)) × (length (now steps) ≡ length (now loads)) ⌝ }
-    requires { ⌜ Named islands (now shown) ⌝ }
+    requires { ⌜ Named 0 islands (now shown) ⌝ }
     requires { ⌜ Below most-levels (now steps) ⌝ }
     requires { ⌜ (islands ≤ most-islands) × (length (now loads) ≤ length (now plan)) × (islands ≤ length (now levels)) ⌝ }
     ensures { λ _. ⌜ now (plan .exit) ≡ now (shown .entry) ++ drop (length (now (loads .entry))) (now (plan .entry)) ⌝ }

@@ -1,6 +1,6 @@
 // The positions of a board: the loads behind the padding, the level of each, and what an island is charged whose heaviest load
-// stands there. `steps` are levels counted from 0. Functions here ask for lists whose lengths go together, and what reads costs asks for a table in range; every caller within
-// the crate shows it.
+// stands there. `steps` are levels counted from 0. Functions here ask for lists whose lengths go together, and what reads costs asks
+// for a table in range; every caller within the crate shows it.
 use table::level;
 use units::Femtojoules;
 use units::Kilohertz;

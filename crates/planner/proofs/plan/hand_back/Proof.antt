@@ -7,7 +7,8 @@ use borrow.Author.Needs.{needs}
 use denote.Ref.{now}
 use lib.ListN.{length, take, drop, replicate, length-append}
 use Rattle.model.specs.Limits.{most-islands}
-use Rattle.planner.specs.Positions.{Named, LevelNumbers}
+use Rattle.model.specs.Plan.{Named}
+use Rattle.planner.specs.Positions.{LevelNumbers}
 use Rattle.planner.proofs.Laying.{part-front, zeros-blank}
 use Rattle.planner.proofs.Handing.{leveled}
 use Rattle.planner.proofs.plan.hand_back.Statement.{statement}
@@ -36,7 +37,7 @@ number-levels-requires c κs =
     let begin : tie.Start = c .before .before .before .before .before .before in
     let pre = begin .pre in
     let wide : begin .args .islands ≡ length {A = ℕ} (take (begin .args .islands - 0) (replicate most-islands 0)) = omega arith in
-    let named = subst (λ (n : ℕ). Named n (now (begin .args .shown))) wide (pre .1 .1 .0) in
+    let named = subst (λ (n : ℕ). Named 0 n (now (begin .args .shown))) wide (pre .1 .1 .0) in
     (pre .0, (pre .1 .0 .0, (pre .1 .0 .1, (named, (pre .1 .1 .1 .0, zeros-blank (begin .args .islands - 0) most-islands)))))
 
 copy-requires : tie.Need-copy-requires
