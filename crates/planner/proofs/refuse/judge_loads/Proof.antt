@@ -3,13 +3,14 @@ use Prim.Native.Nat.{ℕ, _*_, _≤_}
 use mathlib.Core.Path.{refl}
 use mathlib.Core.Logic.{inl, inr}
 use mathlib.Core.List.{List, [], _∷_}
-use native.Mathlib.Nat.{mul-le-mul, not-le-of-lt}
+use native.Mathlib.Nat.{not-le-of-lt}
 use native.Mathlib.Omega.{arith}
 use borrow.Author.Needs.{needs}
 use borrow.Author.Tests.{not-true, not-false}
 use lib.ListN.{length}
 use Rattle.model.specs.Refusals.{Tried, Ordered, lastOf, loadConditions}
 use Rattle.planner.specs.Given.{jobOf, LoadsTried}
+use Rattle.planner.proofs.Solving.{board-places}
 use Rattle.planner.proofs.refuse.judge_loads.Statement.{statement}
 use Rattle.planner.proofs.refuse.judge_loads.Tie as tie
 
@@ -30,7 +31,7 @@ by-speed :
 by-speed islands cores frequencies loads n few ordered speed = for-all islands cores frequencies loads n (inr (few, inr (ordered, speed)))
 
 mul-if1 : tie.Need-mul-if1
-mul-if1 c = omega (arith, mul-le-mul (c .before .before .pre .0 .few-islands) (c .before .before .pre .0 .few-cores))
+mul-if1 c = omega (arith, board-places _ _ (c .before .before .pre .0))
 
 returns : tie.Need-returns
 returns c = for-all _ _ _ _ 6 (inl (not-le-of-lt (c .if1 .taken), refl))
