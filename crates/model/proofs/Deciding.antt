@@ -123,7 +123,7 @@ both-lists (c ∷ cs) ds one other = (one .0, both-lists cs ds (one .1) other)
 -- 1 to 8
 abbrev pub jobConditions : Job → List Condition
 jobConditions job =
-    sizeConditions (job .islands) (job .cores) ++ (tableConditions (job .table) ++ (powerConditions (job .power) ++ loadConditions job))
+    sizeConditions (job .islands) (job .cores) ++ (tableConditions (job .table) ++ (powerConditions (job .island-power) ++ loadConditions job))
 
 module _ (job : Job) where
   unfoldable pub job-decided : Decided (jobConditions job)
@@ -137,7 +137,7 @@ module _ (job : Job) where
         (
           not-falling (job .table),
           (
-            decLe (job .power) most-island-power,
+            decLe (job .island-power) most-island-power,
             (
               decLe (length (job .loads)) (job .islands * job .cores),
               (ordered (job .loads), (decLe (lastOf (job .loads)) (lastOf (job .table .frequencies)), tt)),

@@ -8,6 +8,7 @@
 --     in-order           "which gives 2.62 where filling islands in order gives 6.96": case 13
 --     exact-case-9       "In case 9 the exact power is 1000000", here times the product of the frequencies
 --     exact-case-1       with table T all costs are whole, so the exact power is the total, here times the product of three frequencies
+--     whole-T            "where all costs are whole": table T is such a table
 --     excess-case-9      "the reported total is 2000 above it, less than W = 3000"
 --     thirds             "p = 1, f = 3000 costs 334"
 --     greater-leads, smaller-behind    "greater at the first difference": 4 3 before 4 1, and not 4 1 before 4 3
@@ -21,7 +22,7 @@ use lib.ListN.{getD, replicate}
 use Rattle.model.specs.Job.{Job}
 use Rattle.model.specs.Level.{lowest, levelOf, roundedUp, cost, charge}
 use Rattle.model.specs.Power.{each, held, heaviest, sum, active, drawn, power, own, total, levelNumber, levels, workload}
-use Rattle.model.specs.Exact.{product, others, exactCost, scale, exact}
+use Rattle.model.specs.Exact.{product, others, exactCost, scale, exact, WholeCosts}
 use Rattle.model.specs.TieRule.{Leads}
 use Rattle.model.specs.Cases.{tableT, third, case-1, case-9, case-13, cases, accepted}
 use Rattle.model.proofs.Deciding.{job-number}
@@ -40,7 +41,7 @@ sloped power =
     record {
       islands = 1;
       cores = 1;
-      power = 0;
+      island-power = 0;
       table = record { frequencies = 100000 ∷ 200000 ∷ []; powers = 10000 ∷ power ∷ [] };
       loads = 100000 ∷ [];
     }
@@ -76,6 +77,12 @@ excess-case-9 = (refl, refl)
 pub exact-case-1 : exact (case-1 .job) (case-1 .plan) ≡ case-1 .reported * scale (case-1 .job)
 unfolding lowest levelOf each held heaviest sum active drawn power own product others exactCost scale exact
 exact-case-1 = refl
+
+pub whole-T : WholeCosts tableT
+whole-T zero within = (100000, refl)
+whole-T (suc zero) within = (200000, refl)
+whole-T (suc (suc zero)) within = (400000, refl)
+whole-T (suc (suc (suc k))) within = absurd (not-suc-le-zero (le-of-suc-le-suc (le-of-suc-le-suc (le-of-suc-le-suc within))))
 
 pub thirds : cost third 0 ≡ 334
 unfolding roundedUp cost

@@ -9,6 +9,7 @@
 --     cause-one        two causes with one number are equal
 --     cause-some       no cause has the number 0
 --     planned-one      two answers with one number and one total are equal
+--     number-one       two answers of `number` to one cause are equal
 -- Assumes nothing.
 use Prim.Native.Nat.{ℕ, _-_, _≤_, _<_}
 use mathlib.Core.Path.{_≡_, refl, sym, ap, _∙_, subst}
@@ -134,3 +135,6 @@ planned-one (Total p) (Total q) number totals = ap (λ (n : ℕ). Total (record 
 planned-one (Total p) (Refused d) number totals = absurd (omega (arith, cause-some d))
 planned-one (Refused c) (Total q) number totals = absurd (omega (arith, cause-some c))
 planned-one (Refused c) (Refused d) number totals = ap Refused (cause-one c d number)
+
+pub number-one : (cause : Refusal) (r s : ℕ) → r ≡ causeNumber cause → s ≡ causeNumber cause → r ≡ s
+number-one cause r s p q = p ∙ sym q

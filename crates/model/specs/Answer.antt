@@ -1,6 +1,7 @@
 -- What the caller gets back: the one record that the planner's contract cites.
 --     numberOf    the number that 01 gives to each case of the answer
 --     totalOf     its total in picowatts
+--     Ruled       a full plan of a job, by the tie rule
 --     Kept        everything as it was, and no total
 --     Accepted    the total, the plan and both buffers where nothing is refused
 --     Answered    the answer to a job, whatever the job is
@@ -29,11 +30,15 @@ abbrev pub totalOf : Planned → ℕ
 totalOf (Total p) = p .0
 totalOf (Refused cause) = 0
 
+-- the plan over all V·Q positions that the tie rule names
+abbrev pub Ruled : Job → List ℕ → Type 0
+Ruled job full = ByRule (job .cores) (own job) (charge (job .table)) (padded job) 0 0 (job .islands) full
+
 -- plan₀ and levels₀ are the lent buffers as they came, planned and leveled as they are left
 pub record Accepted (job : Job) (plan₀ levels₀ : List ℕ) (reported : ℕ) (planned leveled : List ℕ) : Type 0 where
-  -- the plan over all V·Q positions, "among equals the tie rule names one"
+  -- "among equals the tie rule names one"
   pub full : List ℕ
-  pub by-rule : ByRule (job .cores) (own job) (charge (job .table)) (padded job) 0 0 (job .islands) full
+  pub by-rule : Ruled job full
   -- "The plan buffer receives one byte per load, its island number." "Bytes beyond the first n […] keep their values."
   pub plan-bytes : planned ≡ shown job full ++ drop (length (job .loads)) plan₀
   pub placement : Placement job (shown job full)

@@ -20,10 +20,11 @@ pub record Case : Type 0 where
   pub levels : List ℕ
 
 -- a row: V, Q, h, the table, the loads; the answer, the total, the plan and the levels
-abbrev pub row : ℕ → ℕ → ℕ → Table → List ℕ → ℕ → ℕ → List ℕ → List ℕ → Case
-row islands cores power table loads answer reported plan levels =
+abbrev pub row :
+    (islands cores island-power : ℕ) (table : Table) (loads : List ℕ) (answer reported : ℕ) (plan levels : List ℕ) → Case
+row islands cores island-power table loads answer reported plan levels =
     record {
-      job = record { islands = islands; cores = cores; power = power; table = table; loads = loads };
+      job = record { islands = islands; cores = cores; island-power = island-power; table = table; loads = loads };
       answer = answer;
       reported = reported;
       plan = plan;

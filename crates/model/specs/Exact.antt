@@ -23,13 +23,13 @@ product [] = 1
 product (f ∷ fs) = f * product fs
 
 -- the product over all entries but the k-th, so that f over f cancels without a division
-unfoldable pub others : List ℕ → ℕ → ℕ
+unfoldable pub others : (fs : List ℕ) (k : ℕ) → ℕ
 others [] k = 1
 others (f ∷ fs) zero = product fs
 others (f ∷ fs) (suc k) = f * others fs k
 
 -- "p times 1000000 over f in place of the rounded cost", times the product
-unfoldable pub exactCost : Table → ℕ → ℕ
+unfoldable pub exactCost : (t : Table) (k : ℕ) → ℕ
 exactCost t k = getD (t .powers) k 0 * million * others (t .frequencies) k
 
 -- "both sides of each comparison are multiplied by the product of all the table's frequencies"

@@ -9,6 +9,6 @@ use Rattle.model.specs.Table.{Table}
 pub record Job : Type 0 where
   pub islands : ℕ
   pub cores : ℕ
-  pub power : ℕ
+  pub island-power : ℕ
   pub table : Table
   pub loads : List ℕ

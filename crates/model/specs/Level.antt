@@ -14,22 +14,22 @@ use Rattle.model.specs.Limits.{million}
 use Rattle.model.specs.Table.{Table}
 
 -- the first entry that is at least w
-unfoldable pub lowest : List ℕ → ℕ → ℕ
+unfoldable pub lowest : (fs : List ℕ) (w : ℕ) → ℕ
 lowest [] w = 0
 lowest (f ∷ fs) w = cond (leb w f) 0 (suc (lowest fs w))
 
 -- "The level of an active island is the lowest one whose frequency is at least its heaviest load."
-unfoldable pub levelOf : Table → ℕ → ℕ
+unfoldable pub levelOf : (t : Table) (w : ℕ) → ℕ
 levelOf t w = lowest (t .frequencies) w
 
 -- n over d, "rounded up to a whole number"
-unfoldable pub roundedUp : ℕ → ℕ → ℕ
+unfoldable pub roundedUp : (n d : ℕ) → ℕ
 roundedUp n d = (n + (d - 1)) / d
 
 -- "The cost of a level is p times 1000000, divided by f, rounded up to a whole number."
-unfoldable pub cost : Table → ℕ → ℕ
+unfoldable pub cost : (t : Table) (k : ℕ) → ℕ
 cost t k = roundedUp (getD (t .powers) k 0 * million) (getD (t .frequencies) k 0)
 
 -- "the cost of its level"
-unfoldable pub charge : Table → ℕ → ℕ
+unfoldable pub charge : (t : Table) (w : ℕ) → ℕ
 charge t w = cost t (levelOf t w)

@@ -29,21 +29,21 @@ unfoldable pub shown : Job → List ℕ → List ℕ
 shown job plan = drop (padding job) plan
 
 -- how many positions the island z holds
-unfoldable pub count : ℕ → List ℕ → ℕ
+unfoldable pub count : (z : ℕ) (plan : List ℕ) → ℕ
 count z [] = 0
 count z (y ∷ plan) = cond (eqb y z) (suc (count z plan)) (count z plan)
 
 -- the positions of the island z in a list whose first entry is position p, "from the highest down"
-unfoldable pub members : ℕ → ℕ → List ℕ → List ℕ
+unfoldable pub members : (z p : ℕ) (plan : List ℕ) → List ℕ
 members z p [] = []
 members z p (y ∷ plan) = members z (suc p) plan ++ cond (eqb y z) (p ∷ []) []
 
 -- the highest position of the island z; 0 where it holds none
-unfoldable pub highest : ℕ → List ℕ → ℕ
+unfoldable pub highest : (z : ℕ) (plan : List ℕ) → ℕ
 highest z plan = getD (members z 1 plan) 0 0
 
 -- every entry is one of the islands base + 1 to base + v
-abbrev pub Named : ℕ → ℕ → List ℕ → Type 0
+abbrev pub Named : (base v : ℕ) (plan : List ℕ) → Type 0
 Named base v plan = (j : ℕ) → j < length plan → (base < getD plan j 0) × (getD plan j 0 ≤ base + v)
 
 -- "The full islands hold exactly Q positions each"
@@ -52,5 +52,5 @@ pub record Full (Q base v : ℕ) (plan : List ℕ) : Type 0 where
   pub filled : (z : ℕ) → base < z → z ≤ base + v → count z plan ≡ Q
 
 -- "and are numbered, in every plan worked out here, by their highest position, lowest first"
-abbrev pub Numbered : ℕ → ℕ → List ℕ → Type 0
+abbrev pub Numbered : (base v : ℕ) (plan : List ℕ) → Type 0
 Numbered base v plan = (x y : ℕ) → base < x → x < y → y ≤ base + v → highest x plan < highest y plan

@@ -21,12 +21,12 @@ use Rattle.model.specs.Level.{levelOf, charge}
 use Rattle.model.specs.Job.{Job}
 
 -- g of the islands base + 1 to base + v, in this order
-unfoldable pub each : (ℕ → ℕ) → ℕ → ℕ → List ℕ
+unfoldable pub each : (g : ℕ → ℕ) (base v : ℕ) → List ℕ
 each g base zero = []
 each g base (suc v) = g (suc base) ∷ each g (suc base) v
 
 -- the loads that stand in the list where the plan has the island z
-unfoldable pub held : ℕ → List ℕ → List ℕ → List ℕ
+unfoldable pub held : (z : ℕ) (plan ws : List ℕ) → List ℕ
 held z [] ws = []
 held z (y ∷ plan) [] = []
 held z (y ∷ plan) (w ∷ ws) = cond (eqb y z) (w ∷ held z plan ws) (held z plan ws)
@@ -46,17 +46,18 @@ unfoldable pub active : List ℕ → Bool
 active ws = ltb 0 (heaviest ws)
 
 -- "An active island draws the island power […] plus the cost of its level times the sum of its loads." "An inactive island draws
--- nothing." Here `own` is the island power and `rate` the cost by heaviest load, both in the unit of the result.
-unfoldable pub drawn : ℕ → (ℕ → ℕ) → List ℕ → ℕ
+-- nothing." Here `own` is the island power in the unit of the result, and `rate` the cost
+-- by heaviest load, in that unit for each kHz.
+unfoldable pub drawn : (own : ℕ) (rate : ℕ → ℕ) (ws : List ℕ) → ℕ
 drawn own rate ws = cond (active ws) (own + rate (heaviest ws) * sum ws) 0
 
 -- "The total is the sum over the islands", here over the islands base + 1 to base + v
-unfoldable pub power : ℕ → (ℕ → ℕ) → ℕ → ℕ → List ℕ → List ℕ → ℕ
+unfoldable pub power : (own : ℕ) (rate : ℕ → ℕ) (base v : ℕ) (plan ws : List ℕ) → ℕ
 power own rate base v plan ws = sum (each (λ z. drawn own rate (held z plan ws)) base v)
 
 -- "the island power (in picowatts)"
 unfoldable pub own : Job → ℕ
-own job = job .power * million
+own job = job .island-power * million
 
 -- the total of a placement of the job, in picowatts
 unfoldable pub total : Job → List ℕ → ℕ

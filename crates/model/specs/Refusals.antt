@@ -66,7 +66,7 @@ pub record RoomEnough (job : Job) (planRoom levelRoom : ℕ) : Type 0 where
   pub level-room : job .islands ≤ levelRoom
 
 -- 1
-abbrev pub sizeConditions : ℕ → ℕ → List Condition
+abbrev pub sizeConditions : (islands cores : ℕ) → List Condition
 sizeConditions islands cores = record { number = 1; holds = FitSizes islands cores } ∷ []
 
 -- 2 to 4
@@ -87,15 +87,15 @@ loadConditions job =
     ∷ []
 
 -- 9
-abbrev pub roomConditions : Job → ℕ → ℕ → List Condition
+abbrev pub roomConditions : (job : Job) (planRoom levelRoom : ℕ) → List Condition
 roomConditions job planRoom levelRoom = record { number = 9; holds = RoomEnough job planRoom levelRoom } ∷ []
 
 -- all nine, in 01's order
-abbrev pub conditions : Job → ℕ → ℕ → List Condition
+abbrev pub conditions : (job : Job) (planRoom levelRoom : ℕ) → List Condition
 conditions job planRoom levelRoom =
     sizeConditions (job .islands) (job .cores)
     ++ (tableConditions (job .table)
-    ++ (powerConditions (job .power) ++ (loadConditions job ++ roomConditions job planRoom levelRoom)))
+    ++ (powerConditions (job .island-power) ++ (loadConditions job ++ roomConditions job planRoom levelRoom)))
 
 -- the table's numbers, for the enum
 abbrev pub causeNumber : Refusal → ℕ

@@ -25,7 +25,7 @@ pub record WellShaped (t : Table) : Type 0 where
   pub same-length : length (t .powers) ≡ length (t .frequencies)
 
 -- every entry of the list is at least `low` and at most `high`
-abbrev pub Between : ℕ → ℕ → List ℕ → Type 0
+abbrev pub Between : (low high : ℕ) (xs : List ℕ) → Type 0
 Between low high xs = (k : ℕ) → k < length xs → (low ≤ getD xs k 0) × (getD xs k 0 ≤ high)
 
 -- every entry of the list is above the one before it

@@ -19,10 +19,10 @@ use Rattle.model.specs.Job.{Job}
 use Rattle.model.specs.Power.{total, levels}
 use Rattle.model.specs.Plan.{shown}
 use Rattle.model.specs.Refusals.{RoomEnough, Tried, conditions}
-use Rattle.model.specs.Answer.{Accepted, Kept, Answered}
+use Rattle.model.specs.Answer.{Ruled, Accepted, Kept, Answered}
 use Rattle.model.proofs.Trying.{tried-one}
 use Rattle.optimum.specs.OfJob.{bestOf, planOf}
-use Rattle.optimum.specs.Passed.{Passed, Ruled, returned}
+use Rattle.optimum.specs.Passed.{Passed, returned}
 use Rattle.optimum.specs.Demands.{SameAnswer}
 use Rattle.optimum.proofs.DemandTwo.{plan-ruled, plan-placement, plan-total, ruled-one, ruled-placement, ruled-least}
 use Rattle.optimum.proofs.Passing.{tried-passed, passed-tried}

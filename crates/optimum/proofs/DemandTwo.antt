@@ -24,9 +24,10 @@ use Rattle.model.specs.TieRule.{Uncrossed}
 use Rattle.model.specs.Refusals.{lastOf}
 use Rattle.model.proofs.Levels.{last-fast}
 use Rattle.model.proofs.Charge.{charge-never-falls}
+use Rattle.model.specs.Answer.{Ruled}
 use Rattle.optimum.specs.Loads.{AtMost, Sorted, NeverFalls}
 use Rattle.optimum.specs.OfJob.{bestOf, planOf}
-use Rattle.optimum.specs.Passed.{Passed, Ruled}
+use Rattle.optimum.specs.Passed.{Passed}
 use Rattle.optimum.proofs.Padding.{power-padded, padded-sorted, padded-within, padded-length}
 use Rattle.optimum.proofs.Placements.{placement-padded}
 use Rattle.optimum.proofs.ShownPlan.{shown-power, shown-placement}
@@ -91,7 +92,7 @@ module _ (job : Job) (passed : Passed job) where
       le-trans
       (full-above (job .cores) (own job) (charge (job .table)) (padded job) (lastOf (job .table .frequencies)) some-core charge-rises
       sorted within 0 0 (job .islands) (pad .0 ++ other) fits (pad .2))
-      (le-of-eq (power-padded (own job) (charge (job .table)) 0 (job .islands) (padding job) (pad .0) other (job .loads) (pad .1)))
+      (le-of-eq (power-padded (padding job) (pad .0) other (job .loads) (pad .1) (own job) (charge (job .table)) 0 (job .islands)))
 
   module _ (full : List ℕ) (rule : Ruled job full) where
     ruled-plan : planOf job ≡ full

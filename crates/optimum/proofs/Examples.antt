@@ -168,7 +168,7 @@ tied-refused taken =
 
 -- three islands of two cores; below two loads of 400000 stand those of case 1
 abbrev stacked : Job
-stacked = record { islands = 3; cores = 2; power = 0; table = tableT; loads = four ++ (400000 ∷ 400000 ∷ []) }
+stacked = record { islands = 3; cores = 2; island-power = 0; table = tableT; loads = four ++ (400000 ∷ 400000 ∷ []) }
 
 pub gaps-settled : planOf stacked ≡ 2 ∷ 1 ∷ 1 ∷ 2 ∷ 3 ∷ 3 ∷ []
 unfolding lowest levelOf roundedUp cost charge each own padding padded itself first least loadAt topLoad fill gapCost bestWithin best

@@ -51,7 +51,8 @@ pub mod Passing
 pub mod Answering
 pub mod DemandOne
 pub mod BoardCases
-pub mod NoLoads
+pub mod Idle
+pub mod LevelsRise
 pub mod Returned
 pub mod Promises
 pub mod Examples

@@ -1,5 +1,6 @@
 -- Zero loads in front cost nothing, whatever islands they are given.
---     power-padded      the power of a plan, with islands for the zeros in front
+--     heaviest-padded   the heaviest load of an island, with islands for the zeros in front
+--     power-padded      the power of a plan, likewise
 --     padded-sorted     ordered loads are sorted, with the zeros in front
 --     padded-within     and none is above a limit that the last is not above
 --     padded-length     there are V·Q of them
@@ -56,16 +57,24 @@ held-zeros z a k =
     let none : AtMost 0 (replicate k 0) = subst (λ (l : List ℕ). AtMost 0 l) (append-nil (replicate k 0)) (zeros-within 0 k [] tt) in
     omega (arith, heaviest-at-most 0 z a (replicate k 0) none)
 
-pub power-padded :
-    (own : ℕ) (rate : ℕ → ℕ) (base v k : ℕ) (pre plan ws : List ℕ)
-    → length pre ≡ k
-    → power own rate base v (pre ++ plan) (replicate k 0 ++ ws) ≡ power own rate base v plan ws
-power-padded own rate base v k pre plan ws as-many =
-    let zeros : List ℕ = replicate k 0 in
-    power-same own rate base v (pre ++ plan) (zeros ++ ws) plan ws
-    (λ z low high.
-    ap (λ (us : List ℕ). drawn own rate us) (held-append z pre plan zeros ws (as-many ∙ sym (length-replicate {A = ℕ} k 0)))
-    ∙ drawn-behind own rate (held z pre zeros) (held z plan ws) (held-zeros z pre k))
+-- a plan, with islands for k zeros in front
+module _ (k : ℕ) (pre plan ws : List ℕ) (as-many : length pre ≡ k) where
+  held-padded : (z : ℕ) → held z (pre ++ plan) (replicate k 0 ++ ws) ≡ held z pre (replicate k 0) ++ held z plan ws
+  held-padded z = held-append z pre plan (replicate k 0) ws (as-many ∙ sym (length-replicate {A = ℕ} k 0))
+
+  pub heaviest-padded : (z : ℕ) → heaviest (held z (pre ++ plan) (replicate k 0 ++ ws)) ≡ heaviest (held z plan ws)
+  heaviest-padded z =
+      ap (λ (us : List ℕ). heaviest us) (held-padded z)
+      ∙ omega (arith, heaviest-append (held z pre (replicate k 0)) (held z plan ws), held-zeros z pre k)
+
+  pub power-padded :
+      (own : ℕ) (rate : ℕ → ℕ) (base v : ℕ)
+      → power own rate base v (pre ++ plan) (replicate k 0 ++ ws) ≡ power own rate base v plan ws
+  power-padded own rate base v =
+      power-same own rate base v (pre ++ plan) (replicate k 0 ++ ws) plan ws
+      (λ z low high.
+      ap (λ (us : List ℕ). drawn own rate us) (held-padded z)
+      ∙ drawn-behind own rate (held z pre (replicate k 0)) (held z plan ws) (held-zeros z pre k))
 
 module _ (job : Job) where
   pub padded-sorted : Ordered (job .loads) → Sorted (padded job)

@@ -12,6 +12,8 @@
 --     demand-2            the plan of an accepted answer has the reported total, no placement's is lower, it has no crossing, is numbered by
 --                         highest position, has island V last, and is the one that the tie rule names
 --     demand-3            what its total and its plan are worth with exact fractions as costs
+--     no-work             where all loads are 0, both its total and its plan's exact power are 0
+--     levels-rise         its level bytes never fall from one island to the next
 --     no-loads            an empty list of loads is accepted: total 0, all V levels 0
 --     board-cases, board-cases-once    the board cases to prove: each row is the answer to its job, and the only one
 -- Assumes nothing.
@@ -19,12 +21,13 @@ use Prim.Native.Nat.{ℕ, _+_, _*_, _≤_, _<_}
 use mathlib.Core.Path.{_≡_}
 use mathlib.Core.Logic.{_⊎_, _↔_}
 use mathlib.Core.List.{List, [], _++_}
-use lib.ListN.{length, drop, replicate}
+use lib.ListN.{length, take, drop, replicate}
 use Rattle.model.specs.Job.{Job}
-use Rattle.model.specs.Power.{held, drawn}
+use Rattle.model.specs.Power.{held, drawn, workload}
+use Rattle.model.specs.Exact.{exact}
 use Rattle.model.specs.Placement.{Placement}
 use Rattle.model.specs.TieRule.{Uncrossed, ByRule}
-use Rattle.model.specs.Refusals.{lastOf, Tried, conditions}
+use Rattle.model.specs.Refusals.{Ordered, lastOf, Tried, conditions}
 use Rattle.model.specs.Answer.{Answered}
 use Rattle.model.specs.Cases.{proved}
 use Rattle.optimum.specs.Loads.{AtMost, Sorted, NeverFalls, At}
@@ -47,8 +50,9 @@ use Rattle.optimum.proofs.Passing.{placement-exists, count-or-speed}
 use Rattle.optimum.proofs.Answering.{answer-once}
 use Rattle.optimum.proofs.DemandOne.{answer-demand-1, answer-found}
 use Rattle.optimum.proofs.BoardCases.{cases-answered, cases-only}
-use Rattle.optimum.proofs.NoLoads.{idle-passes, idle-answer}
-use Rattle.optimum.proofs.Returned.{returned-demand-2, returned-demand-3}
+use Rattle.optimum.proofs.Idle.{idle-answer, empty-idle, empty-passes}
+use Rattle.optimum.proofs.LevelsRise.{levels-ordered}
+use Rattle.optimum.proofs.Returned.{returned-demand-2, returned-demand-3, returned-idle}
 
 -- Q cores to an island, the island power, a cost by heaviest load, and the loads at all positions
 module _ (Q own : ℕ) (rate : ℕ → ℕ) (ws : List ℕ) where
@@ -141,6 +145,15 @@ module _ (job : Job) where
       pub demand-3 : Demand3 job reported (returned job planned)
       demand-3 = returned-demand-3 job plan₀ levels₀ reported planned leveled answer
 
+      -- "or equal when W is 0": where all loads are 0 both the total and the exact power are 0
+      pub no-work : workload job ≡ 0 → (reported ≡ 0) × (exact job (returned job planned) ≡ 0)
+      no-work = returned-idle job plan₀ levels₀ reported planned leveled answer
+
+      -- padding stands in front and islands are numbered by their highest position, so the level never falls from one island to the
+      -- next: idle islands have the low numbers
+      pub levels-rise : Ordered (take (job .islands) leveled)
+      levels-rise = levels-ordered job plan₀ levels₀ reported planned leveled answer
+
 -- "An empty list of loads is accepted: total 0, all V levels 0."
 pub no-loads :
     (job : Job) (plan₀ levels₀ : List ℕ)
@@ -152,7 +165,7 @@ pub no-loads :
     → Answered job plan₀ levels₀ 0 reported planned leveled
     → (reported ≡ 0) × (leveled ≡ replicate (job .islands) 0 ++ drop (job .islands) levels₀))
 no-loads job plan₀ levels₀ none well room =
-    (idle-passes job none (length plan₀) (length levels₀) well room, idle-answer job none plan₀ levels₀)
+    (empty-passes job none (length plan₀) (length levels₀) well room, idle-answer job (empty-idle job none) plan₀ levels₀)
 
 -- "Cases 1 to 12 are one list with one claim, proved from the definitions"
 pub board-cases : Each Claimed proved

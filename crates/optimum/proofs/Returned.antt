@@ -1,24 +1,25 @@
 -- Demands 2 and 3 of what the caller reads: the returned plan and the reported total. From the answer nothing is taken but its plan
 -- bytes, that the plan is by the rule, and that the total is the plan's.
 --     returned-demand-2, returned-demand-3    the two demands
+--     returned-idle    where all loads are 0, both the total and the exact power are 0
 -- Assumes nothing.
 use Prim.Native.Nat.{ℕ, _+_, _*_, _≤_, _<_}
 use mathlib.Core.Path.{_≡_, sym, ap, _∙_, subst}
 use mathlib.Core.List.{List, [], _∷_}
-use native.Mathlib.Nat.{zero-add, le-trans, le-of-eq, lt-of-le-of-lt}
+use native.Mathlib.Nat.{zero-add, zero-mul, le-trans, le-of-eq, lt-of-le-of-lt}
 use lib.Dec.{lit<}
 use lib.ListN.{length, take, drop, take-append-drop}
 use Rattle.model.specs.Table.{WellRanged}
 use Rattle.model.specs.Job.{Job}
-use Rattle.model.specs.Power.{total}
-use Rattle.model.specs.Exact.{scale}
+use Rattle.model.specs.Power.{total, workload}
+use Rattle.model.specs.Exact.{scale, exact}
 use Rattle.model.specs.Placement.{Placement}
 use Rattle.model.specs.Plan.{padding, shown}
 use Rattle.model.specs.Crossing.{NoCrossing}
 use Rattle.model.specs.TieRule.{Uncrossed}
 use Rattle.model.specs.Refusals.{lastOf}
-use Rattle.model.specs.Answer.{Answered}
-use Rattle.optimum.specs.Passed.{Passed, Ruled, returned}
+use Rattle.model.specs.Answer.{Ruled, Answered}
+use Rattle.optimum.specs.Passed.{Passed, returned}
 use Rattle.optimum.specs.Demands.{Demand2, Demand3}
 use Rattle.optimum.proofs.Lists.{last-append}
 use Rattle.optimum.proofs.UncrossedRun.{top-last}
@@ -27,6 +28,7 @@ use Rattle.optimum.proofs.DemandTwo.{ruled-one, ruled-uncrossed, ruled-
 use Rattle.optimum.proofs.ExactPower.{exact-covered, exact-close, exact-idle}
 use Rattle.optimum.proofs.ExactCost.{scale-positive}
 use Rattle.optimum.proofs.DemandThree.{within-workload, whole-least}
+use Rattle.optimum.proofs.Idle.{idle-total}
 use Rattle.optimum.proofs.Answering.{answer-passed, answer-full, answer-ruled, returned-plan, returned-total}
 
 module _
@@ -123,3 +125,9 @@ module _
         equal = λ none. scaled ∙ exact-idle job ranged plan placed-plan none;
         whole = λ costs other placed. whole-least job ranged plan other placed-plan placed (below other placed) costs;
       }
+
+  pub returned-idle : workload job ≡ 0 → (reported ≡ 0) × (exact job (returned job planned) ≡ 0)
+  unfolding plan
+  returned-idle idle =
+      let none : reported ≡ 0 = reports ∙ idle-total job idle plan in
+      (none, sym (returned-demand-3 .equal idle) ∙ ap (λ (n : ℕ). n * scale job) none ∙ zero-mul (scale job))

@@ -1,5 +1,6 @@
 -- What the caller sees of a full plan.
---     shown-power         it has the full plan's power: the zeros in front cost nothing
+--     shown-heaviest      an island has the full plan's heaviest load: the zeros in front weigh nothing
+--     shown-power         it has the full plan's power: they cost nothing
 --     shown-placement     it is a placement, if the last level is fast enough for the last load
 --     shown-no-crossing   it has no crossing, if the full plan has none
 -- Assumes nothing.
@@ -24,7 +25,7 @@ use Rattle.optimum.proofs.NamedPlans.{named-within, full-length}
 use Rattle.optimum.proofs.SortedLoads.{heaviest-at-most}
 use Rattle.optimum.proofs.OrderedLoads.{ordered-most}
 use Rattle.optimum.proofs.Untangled.{Untangled, untangled, no-crossing, untangled-right}
-use Rattle.optimum.proofs.Padding.{power-padded}
+use Rattle.optimum.proofs.Padding.{heaviest-padded, power-padded}
 
 module _
     (job : Job) (plan : List ℕ) (full : Full (job .cores) 0 (job .islands) plan)
@@ -56,14 +57,23 @@ module _
         | no none ↦ omega arith
       ]
 
+  hidden-length : length (take (padding job) plan) ≡ padding job
+  unfolding padding
+  hidden-length = omega (arith, length-take (padding job) plan, places)
+
+  pub shown-heaviest : (z : ℕ) → heaviest (held z plan (padded job)) ≡ heaviest (held z (shown job plan) (job .loads))
+  unfolding padded shown
+  shown-heaviest z =
+      ap (λ (a : List ℕ). heaviest (held z a (padded job))) (sym (take-append-drop (padding job) plan))
+      ∙ heaviest-padded (padding job) (take (padding job) plan) (drop (padding job) plan) (job .loads) hidden-length z
+
   pub shown-power :
       (own : ℕ) (rate : ℕ → ℕ)
       → power own rate 0 (job .islands) plan (padded job) ≡ power own rate 0 (job .islands) (shown job plan) (job .loads)
-  unfolding padded padding shown
+  unfolding padded shown
   shown-power own rate =
       ap (λ (a : List ℕ). power own rate 0 (job .islands) a (padded job)) (sym (take-append-drop (padding job) plan))
-      ∙ power-padded own rate 0 (job .islands) (padding job) (take (padding job) plan) (drop (padding job) plan) (job .loads)
-      (omega (arith, length-take (padding job) plan, places))
+      ∙ power-padded (padding job) (take (padding job) plan) (drop (padding job) plan) (job .loads) hidden-length own rate 0 (job .islands)
 
   pub shown-placement :
       1 ≤ length (job .table .frequencies)

@@ -1,6 +1,7 @@
 -- Sorted loads, and the heaviest load of an island among them.
 --     most-front, most-back, sorted-front, sorted-back    the parts of two lists, one behind the other
 --     sorted-taken-out, most-taken-out    what is left when a stretch is taken out
+--     sorted-last                     no load is above the last
 --     heaviest-at-least, heaviest-at-most    the heaviest load of an island lies within what its loads lie within
 --     heaviest-later                  an island that stands in the later part has its heaviest load there
 --     top-heaviest                    an island that stands last has the last load as its heaviest
@@ -52,6 +53,10 @@ sorted-taken-out [] b q h = sorted-back b q h
 sorted-taken-out (u ∷ p) b q h =
     let front = least-append u p (b ++ q) (h .0) in
     (least-joined u p q (front .0) (least-append u b q (front .1) .1), sorted-taken-out p b q (h .1))
+
+pub sorted-last : (us : List ℕ) (w : ℕ) → Sorted (us ++ (w ∷ [])) → AtMost w (us ++ (w ∷ []))
+sorted-last [] w h = (le-of-eq refl, tt)
+sorted-last (u ∷ us) w h = (least-append u us (w ∷ []) (h .0) .1 .0, sorted-last us w (h .1))
 
 pub heaviest-at-least : (u z : ℕ) (a ws : List ℕ) → AtLeast u ws → 0 < count z a → length a ≤ length ws → u ≤ heaviest (held z a ws)
 unfolding held heaviest count

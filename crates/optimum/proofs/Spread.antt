@@ -2,6 +2,7 @@
 --     islands            the islands base + 1 to base + v, as a list
 --     weighed            the sum over the positions: each load, times a weight of its island
 --     each-length        a figure for each of v islands: v figures
+--     each-at            the figure at a place
 --     each-over          a sum of `each` is one over `islands`
 --     islands-once, islands-below, islands-above, islands-length    every island of the range stands there once, and no other
 --     over-same, over-sum, over-le, over-scaled    the sums of two figures that are equal, added, in order, multiplied
@@ -14,11 +15,12 @@ use mathlib.Core.Path.{_≡_, refl, sym, ap, _∙_}
 use mathlib.Core.Bool.{cond}
 use mathlib.Core.List.{List, [], _∷_, _++_}
 use native.Mathlib.Nat.{zero-add, add-zero, add-assoc, mul-zero, zero-mul, mul-add, add-mul, suc-ne-zero, suc-inj, add-le-add}
+use native.Mathlib.Nat.{not-suc-le-zero, le-of-suc-le-suc}
 use native.Mathlib.Decide.{ℕ-discrete}
 use native.Mathlib.Omega.{arith}
 use borrow.Author.Tests.{eq-eqb, ne-eqb}
 use lib.Dec.{eqb}
-use lib.ListN.{length}
+use lib.ListN.{length, getD}
 use Rattle.model.specs.Plan.{count}
 use Rattle.model.specs.Power.{each, held, sum}
 use Rattle.optimum.specs.Fair.{over}
@@ -37,6 +39,12 @@ pub each-length : (g : ℕ → ℕ) (base v : ℕ) → length (each g base v) �
 unfolding each
 each-length g base zero = refl
 each-length g base (suc v) = ap suc (each-length g (suc base) v)
+
+pub each-at : (g : ℕ → ℕ) (base v i : ℕ) → i < v → getD (each g base v) i 0 ≡ g (suc (base + i))
+unfolding each
+each-at g base zero i h = absurd (not-suc-le-zero h)
+each-at g base (suc v) zero h = ap (λ (n : ℕ). g (suc n)) (sym (add-zero base))
+each-at g base (suc v) (suc i) h = each-at g (suc base) v i (le-of-suc-le-suc h) ∙ ap (λ (n : ℕ). g n) (omega arith)
 
 pub each-over : (g : ℕ → ℕ) (base v : ℕ) → sum (each g base v) ≡ over g (islands base v)
 unfolding each sum over islands

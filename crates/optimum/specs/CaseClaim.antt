@@ -1,4 +1,4 @@
--- The one claim that is made of each board case to prove: with buffers that fit, the row is the answer, and the only one.
+-- What is claimed of each board case to prove: with buffers that fit, the row is the answer, and the only one.
 --     planLeft, levelsLeft    the two buffers as a row leaves them: its entries, and what stood beyond them
 --     Fit        buffers with room for the row's job
 --     Claimed    the row is the answer to its job
@@ -21,7 +21,7 @@ abbrev pub levelsLeft : Case → List ℕ → List ℕ
 levelsLeft c levels₀ = c .levels ++ drop (length (c .levels)) levels₀
 
 -- "Buffers fit unless stated."
-abbrev pub Fit : Case → List ℕ → List ℕ → Type 0
+abbrev pub Fit : (c : Case) (plan₀ levels₀ : List ℕ) → Type 0
 Fit c plan₀ levels₀ = RoomEnough (c .job) (length plan₀) (length levels₀)
 
 abbrev pub Claimed : Case → Type 0

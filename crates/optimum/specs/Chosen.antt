@@ -11,11 +11,11 @@ use Rattle.optimum.specs.Best.{first, gapCost, topLoad, fill, best}
 
 module _ (Q : ℕ) (ws : List ℕ) (b : ℕ → ℕ → ℕ) where
   -- b gives the bests of the runs in gaps, ρ is what each kHz on the top island is charged
-  unfoldable pub chosen : ℕ → ℕ → ℕ → ℕ → ℕ
+  unfoldable pub chosen : (ρ i r m : ℕ) → ℕ
   chosen ρ i r m = first m (gapCost Q b (fill Q ws b ρ i r) i r m)
 
   -- `inner` writes the run in a gap, by its place, base and number of islands
-  unfoldable pub planGaps : (ℕ → ℕ → ℕ → List ℕ) → ℕ → ℕ → ℕ → ℕ → ℕ → ℕ → List ℕ
+  unfoldable pub planGaps : (inner : ℕ → ℕ → ℕ → List ℕ) (ρ x i base r m : ℕ) → List ℕ
   planGaps inner ρ x i base zero m = inner i base m ++ (x ∷ [])
   planGaps inner ρ x i base (suc r) m =
       planGaps inner ρ x i base r (m - chosen ρ i r m)
@@ -23,23 +23,23 @@ module _ (Q : ℕ) (ws : List ℕ) (b : ℕ → ℕ → ℕ) where
 
   module _ (rate : ℕ → ℕ) where
     -- n bounds how deep runs stand in gaps; v is always enough
-    unfoldable pub planWithin : ℕ → ℕ → ℕ → ℕ → List ℕ
+    unfoldable pub planWithin : (n i base v : ℕ) → List ℕ
     planWithin zero i base v = []
     planWithin (suc n) i base zero = []
     planWithin (suc n) i base (suc m) =
         planGaps (planWithin n) (rate (topLoad Q ws i m)) (base + suc m) i base (Q - 1) m
 
     -- the run writer over these bests
-    abbrev pub planBy : ℕ → ℕ → ℕ → List ℕ
+    abbrev pub planBy : (i base v : ℕ) → List ℕ
     planBy i base v = planWithin v i base v
 
-unfoldable pub planRun : ℕ → ℕ → (ℕ → ℕ) → List ℕ → ℕ → ℕ → ℕ → List ℕ
+unfoldable pub planRun : (Q own : ℕ) (rate : ℕ → ℕ) (ws : List ℕ) (i base v : ℕ) → List ℕ
 planRun Q own rate ws = planBy Q ws (best Q own rate ws) rate
 
 -- over the bests of the recurrence and the runs of this function: what the gap below a member gets, and the walker
 module _ (Q own : ℕ) (rate : ℕ → ℕ) (ws : List ℕ) where
-  abbrev pub bestGap : ℕ → ℕ → ℕ → ℕ → ℕ
+  abbrev pub bestGap : (ρ i r m : ℕ) → ℕ
   bestGap = chosen Q ws (best Q own rate ws)
 
-  abbrev pub walk : ℕ → ℕ → ℕ → ℕ → ℕ → ℕ → List ℕ
+  abbrev pub walk : (ρ x i base r m : ℕ) → List ℕ
   walk = planGaps Q ws (best Q own rate ws) (planRun Q own rate ws)

@@ -18,7 +18,7 @@ use Rattle.model.specs.Plan.{shown}
 use Rattle.model.specs.Crossing.{NoCrossing}
 use Rattle.model.specs.TieRule.{Uncrossed}
 use Rattle.model.specs.Refusals.{AllHold, FirstCause, conditions, lastOf}
-use Rattle.optimum.specs.Passed.{Ruled}
+use Rattle.model.specs.Answer.{Ruled}
 
 -- n is the number; plan₀ and levels₀ are the lent buffers as they came, planned and leveled as they are left
 pub record Demand1 (job : Job) (plan₀ levels₀ : List ℕ) (n reported : ℕ) (planned leveled : List ℕ) : Type 1 where
@@ -44,7 +44,7 @@ pub record Demand2 (job : Job) (reported : ℕ) (plan : List ℕ) : Type 0 where
   pub least : (other : List ℕ) → Placement job other → reported ≤ total job other
   -- "The returned plan has no crossing islands."
   pub no-crossing : NoCrossing plan
-  -- the plan over all V·Q positions, of which the caller sees the entries of its own loads: nor has it any, and "The full islands hold
+  -- the plan over all V·Q positions, of which the caller sees the entries of its own loads: it too has no crossing, and "The full islands hold
   -- exactly Q positions each and are numbered […] by their highest position, lowest first."
   pub full : List ℕ
   pub seen : plan ≡ shown job full

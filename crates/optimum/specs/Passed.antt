@@ -1,7 +1,6 @@
 -- What holds of a job that is not refused.
 --     WellFormed    all but the count and the speed: causes 1 to 5 and 7 do not apply
 --     Passed        nor do 6 and 8
---     Ruled         a full plan of the job, by the tie rule
 --     returned      the plan that a caller reads from the plan buffer
 -- Assumes nothing.
 use Prim.Native.Nat.{ℕ, _*_, _≤_}
@@ -9,11 +8,7 @@ use mathlib.Core.List.{List}
 use lib.ListN.{length, take}
 use Rattle.model.specs.Limits.{most-island-power}
 use Rattle.model.specs.Table.{WellShaped, WellRanged, NotFalling}
-use Rattle.model.specs.Level.{charge}
 use Rattle.model.specs.Job.{Job}
-use Rattle.model.specs.Power.{own}
-use Rattle.model.specs.Plan.{padded}
-use Rattle.model.specs.TieRule.{ByRule}
 use Rattle.model.specs.Refusals.{FitSizes, Ordered, lastOf}
 
 pub record WellFormed (job : Job) : Type 0 where
@@ -21,16 +16,13 @@ pub record WellFormed (job : Job) : Type 0 where
   pub shaped : WellShaped (job .table)
   pub ranged : WellRanged (job .table)
   pub slopes : NotFalling (job .table)
-  pub island-power : job .power ≤ most-island-power
+  pub island-power : job .island-power ≤ most-island-power
   pub ordered : Ordered (job .loads)
 
 pub record Passed (job : Job) : Type 0 where
   pub well : WellFormed job
   pub few : length (job .loads) ≤ job .islands * job .cores
   pub slow : lastOf (job .loads) ≤ lastOf (job .table .frequencies)
-
-abbrev pub Ruled : Job → List ℕ → Type 0
-Ruled job full = ByRule (job .cores) (own job) (charge (job .table)) (padded job) 0 0 (job .islands) full
 
 -- the plan as the caller reads it: one byte per load
 abbrev pub returned : Job → List ℕ → List ℕ

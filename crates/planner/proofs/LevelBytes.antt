@@ -5,11 +5,11 @@
 --     so-far-idle    a load of 0 changes nothing
 --     so-far-all     after the last load they are the level numbers of the job
 -- Assumes nothing.
-use Prim.Native.Nat.{ℕ, zero, suc, _+_, _-_, _≤_, _<_}
+use Prim.Native.Nat.{ℕ, suc, _+_, _-_, _≤_, _<_}
 use mathlib.Core.Path.{_≡_, sym, ap, _∙_, subst}
 use mathlib.Core.Bool.{cond}
 use mathlib.Core.List.{List, [], _∷_, _++_, append-nil}
-use native.Mathlib.Nat.{not-suc-le-zero, le-of-suc-le-suc, add-zero, zero-add, le-max-left}
+use native.Mathlib.Nat.{zero-add, le-max-left}
 use native.Mathlib.Numerals.{add-one}
 use native.Mathlib.Decide.{ℕ-discrete}
 use native.Mathlib.Omega.{arith}
@@ -23,17 +23,11 @@ use Rattle.model.specs.Power.{each, held, heaviest, active, levelNumber, levels
 use Rattle.model.specs.Plan.{Named}
 use Rattle.model.specs.Refusals.{Ordered}
 use Rattle.optimum.specs.Loads.{Sorted}
-use Rattle.optimum.proofs.Spread.{each-length}
+use Rattle.optimum.proofs.Spread.{each-length, each-at}
 use Rattle.optimum.proofs.Held.{held-append, held-other, heaviest-append}
 use Rattle.optimum.proofs.OrderedLoads.{ordered-sorted}
 use Rattle.optimum.proofs.SortedLoads.{sorted-front, top-heaviest}
 use Rattle.planner.specs.Positions.{Looked, Blank, LevelNumbers}
-
-each-at : (g : ℕ → ℕ) (base v i : ℕ) → i < v → getD (each g base v) i 0 ≡ g (suc (base + i))
-unfolding each
-each-at g base zero i h = absurd (not-suc-le-zero h)
-each-at g base (suc v) zero h = ap (λ (n : ℕ). g (suc n)) (sym (add-zero base))
-each-at g base (suc v) (suc i) h = each-at g (suc base) v i (le-of-suc-le-suc h) ∙ ap (λ (n : ℕ). g n) (omega arith)
 
 -- the heaviest of the first k loads on the island z
 top : List ℕ → List ℕ → ℕ → ℕ → ℕ

@@ -7,7 +7,7 @@
 --     Light          every load is within the highest frequency that a table may have
 --     Sized          some cores and no more than there may be, no more positions than a board may have, loads in range, a whole square
 --     Cheap          a charge for every position, none too high
---     Bounded        the table has for a run of g islands, g at most v, no more than g islands may draw
+--     Bounded        what the table has for a run of at most v islands is no more than so many islands may draw
 --     RunFits        a run of m + 1 islands from i on, over these and with a charge ρ
 -- Assumes nothing.
 use Prim.Native.Nat.{ℕ, suc, _+_, _*_, _/_, _≤_, _<_}
@@ -29,7 +29,7 @@ most-own = most-island-power * million
 abbrev pub most-draw : ℕ
 most-draw = most-own + most-cores * most-member
 
-abbrev pub AllBelow : ℕ → ℕ → (ℕ → ℕ) → Type 0
+abbrev pub AllBelow : (bound m : ℕ) (h : ℕ → ℕ) → Type 0
 AllBelow bound m h = (g : ℕ) → g ≤ m → h g < bound
 
 abbrev pub Light : List ℕ → Type 0
@@ -46,7 +46,7 @@ pub record Cheap (ws rates : List ℕ) : Type 0 where
   pub same-length : length rates ≡ length ws
   pub cheap : (k : ℕ) → getD rates k 0 ≤ most-charge
 
-abbrev pub Bounded : ℕ → List ℕ → List ℕ → ℕ → Type 0
+abbrev pub Bounded : (Q : ℕ) (ws bests : List ℕ) (v : ℕ) → Type 0
 Bounded Q ws bests v = (i g : ℕ) → g ≤ v → i + g * Q ≤ length ws → bestAt Q bests i g ≤ g * most-draw
 
 pub record RunFits (Q ρ i m : ℕ) (ws bests : List ℕ) : Type 0 where

@@ -1,4 +1,4 @@
--- The job that a caller's numbers and lent lists are, and what two parts of it decide.
+-- The job that is made of a caller's numbers and lent lists, and what two parts of it decide.
 --     jobOf         the job
 --     LoadsTried    causes 6 to 8, by the sizes, the frequencies and the loads: whatever else the job has
 --     RoomTried     cause 9, by the islands and the number of loads
@@ -11,11 +11,11 @@ use Rattle.model.specs.Job.{Job}
 use Rattle.model.specs.Refusals.{Tried, loadConditions, roomConditions}
 use Rattle.table.specs.Judged.{tableOf}
 
-abbrev pub jobOf : ℕ → ℕ → ℕ → List ℕ → List ℕ → List ℕ → Job
-jobOf islands cores power frequencies powers loads =
-    record { islands = islands; cores = cores; power = power; table = tableOf frequencies powers; loads = loads }
+abbrev pub jobOf : (islands cores island-power : ℕ) (frequencies powers loads : List ℕ) → Job
+jobOf islands cores island-power frequencies powers loads =
+    record { islands = islands; cores = cores; island-power = island-power; table = tableOf frequencies powers; loads = loads }
 
-abbrev pub LoadsTried : ℕ → ℕ → List ℕ → List ℕ → ℕ → Type 0
+abbrev pub LoadsTried : (islands cores : ℕ) (frequencies loads : List ℕ) (n : ℕ) → Type 0
 LoadsTried islands cores frequencies loads n =
     (job : Job)
     → job .islands ≡ islands
@@ -24,6 +24,6 @@ LoadsTried islands cores frequencies loads n =
     → job .loads ≡ loads
     → Tried (loadConditions job) n
 
-abbrev pub RoomTried : ℕ → ℕ → ℕ → ℕ → ℕ → Type 0
+abbrev pub RoomTried : (islands loads planRoom levelRoom n : ℕ) → Type 0
 RoomTried islands loads planRoom levelRoom n =
     (job : Job) → job .islands ≡ islands → length (job .loads) ≡ loads → Tried (roomConditions job planRoom levelRoom) n

@@ -16,13 +16,13 @@ use Rattle.model.specs.Level.{lowest, cost}
 use Rattle.model.specs.Job.{Job}
 use Rattle.model.specs.Power.{levels}
 
-abbrev pub Looked : List ℕ → List ℕ → List ℕ → Type 0
+abbrev pub Looked : (frequencies ws steps : List ℕ) → Type 0
 Looked frequencies ws steps = (k : ℕ) → k < length ws → getD steps k 0 ≡ lowest frequencies (getD ws k 0)
 
-abbrev pub Costed : Table → List ℕ → List ℕ → Type 0
+abbrev pub Costed : (t : Table) (steps rates : List ℕ) → Type 0
 Costed t steps rates = (k : ℕ) → k < length steps → getD rates k 0 ≡ cost t (getD steps k 0)
 
-abbrev pub Charged : (ℕ → ℕ) → List ℕ → List ℕ → Type 0
+abbrev pub Charged : (rate : ℕ → ℕ) (ws rates : List ℕ) → Type 0
 Charged rate ws rates = (k : ℕ) → k < length ws → getD rates k 0 ≡ rate (getD ws k 0)
 
 abbrev pub Below : ℕ → List ℕ → Type 0
@@ -31,6 +31,6 @@ Below bound xs = (k : ℕ) → k < length xs → getD xs k 0 < bound
 abbrev pub Blank : List ℕ → Type 0
 Blank xs = (k : ℕ) → getD xs k 0 ≡ 0
 
-abbrev pub LevelNumbers : List ℕ → List ℕ → List ℕ → ℕ → List ℕ → Type 0
+abbrev pub LevelNumbers : (ws plan steps : List ℕ) (islands : ℕ) (numbers : List ℕ) → Type 0
 LevelNumbers ws plan steps islands numbers =
     (job : Job) → job .loads ≡ ws → job .islands ≡ islands → Looked (job .table .frequencies) ws steps → numbers ≡ levels job plan

@@ -9,8 +9,8 @@ use lib.ListN.{getD}
 use Rattle.model.specs.Limits.{most-islands}
 use Rattle.optimum.specs.Best.{fill}
 
-unfoldable pub rowAt : List ℕ → ℕ → ℕ → ℕ
+unfoldable pub rowAt : (rows : List ℕ) (r n : ℕ) → ℕ
 rowAt rows r n = getD rows (r * most-islands + n) 0
 
-abbrev pub Filling : ℕ → List ℕ → (ℕ → ℕ → ℕ) → ℕ → ℕ → List ℕ → ℕ → ℕ → Type 0
+abbrev pub Filling : (Q : ℕ) (ws : List ℕ) (b : ℕ → ℕ → ℕ) (ρ i : ℕ) (rows : List ℕ) (r m : ℕ) → Type 0
 Filling Q ws b ρ i rows r m = (s n : ℕ) → s ≤ r → n ≤ m → rowAt rows s n ≡ fill Q ws b ρ i s n

@@ -1,6 +1,6 @@
 -- What is settled before anything is written into the lent buffers, and what is then written.
 --     Carried       every load has a level that is fast enough
---     Solved        the least total of the whole board and its full plan, for every charge that the charges of the positions are
+--     Solved        the least total of the whole board and its full plan, for every charge that the charges of the positions agree with
 --     SettledJob    the level of each position of a job, its least total and its full plan
 --     Leveled       a list of level bytes begins with those that the islands and the levels of the loads give, whatever the job's table
 --     HandedBack    the least total of a job, and both lent buffers: what is written, and behind it what they held
@@ -22,7 +22,7 @@ use Rattle.planner.specs.Positions.{Looked, Charged}
 abbrev pub Carried : Table → List ℕ → Type 0
 Carried t ws = (k : ℕ) → k < length ws → FastEnough t (getD ws k 0)
 
-abbrev pub Solved : ℕ → ℕ → List ℕ → List ℕ → ℕ → ℕ → List ℕ → Type 0
+abbrev pub Solved : (Q own : ℕ) (ws rates : List ℕ) (v total : ℕ) (full : List ℕ) → Type 0
 Solved Q own ws rates v total full =
     (rate : ℕ → ℕ)
     → Charged rate ws rates
@@ -33,7 +33,7 @@ pub record SettledJob (job : Job) (steps : List ℕ) (total : ℕ) (full : List 
   pub least : total ≡ bestOf job
   pub chosen : full ≡ planOf job
 
-abbrev pub Leveled : List ℕ → List ℕ → List ℕ → ℕ → List ℕ → List ℕ → Type 0
+abbrev pub Leveled : (ws plan steps : List ℕ) (islands : ℕ) (before after : List ℕ) → Type 0
 Leveled ws plan steps islands before after =
     (job : Job)
     → job .loads ≡ ws

@@ -14,15 +14,15 @@ use Rattle.planner.specs.Square.{bestAt}
 use Rattle.planner.specs.Rows.{rowAt, Filling}
 use Rattle.planner.specs.Bounds.{most-member, most-draw}
 
-abbrev pub Low : List ℕ → ℕ → ℕ → Type 0
+abbrev pub Low : (rows : List ℕ) (r m : ℕ) → Type 0
 Low rows r m = (s n : ℕ) → s ≤ r → n ≤ m → rowAt rows s n ≤ n * most-draw + suc s * most-member
 
 module _ (Q : ℕ) (ws rates bests before after : List ℕ) where
-  abbrev pub RunWritten : ℕ → ℕ → ℕ → Type 0
+  abbrev pub RunWritten : (i base v : ℕ) → Type 0
   RunWritten i base v =
       (rate : ℕ → ℕ) → Charged rate ws rates → after ≡ sets before i (planBy Q ws (bestAt Q bests) rate i base v)
 
-  abbrev pub GapsWritten : List ℕ → ℕ → ℕ → ℕ → ℕ → ℕ → Type 0
+  abbrev pub GapsWritten : (rows : List ℕ) (x i base r m : ℕ) → Type 0
   GapsWritten rows x i base r m =
       (rate : ℕ → ℕ)
       → Charged rate ws rates

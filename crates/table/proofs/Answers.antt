@@ -2,13 +2,16 @@
 --     answer-refused    a cause stays the first, whatever is tried after it
 --     answer-sound      where nothing is refused all hold
 --     table-one         two answers to one table are equal
+--     level-one         so are two answers of `level` to one list of frequencies and one load
 -- Assumes nothing.
-use Prim.Native.Nat.{_<_}
-use mathlib.Core.Path.{_≡_, refl, sym, ap, subst}
+use Prim.Native.Nat.{ℕ, _<_}
+use mathlib.Core.Path.{_≡_, refl, sym, ap, _∙_, subst}
 use mathlib.Core.List.{List, _++_}
 use native.Mathlib.Omega.{arith}
+use Rattle.units.specs.declared.Kilohertz.{Kilohertz}
 use Rattle.model.specs.declared.Refusal.{Refusal}
 use Rattle.model.specs.Table.{Table}
+use Rattle.model.specs.Level.{lowest}
 use Rattle.model.specs.Refusals.{Condition, Tried, AllHold, tableConditions}
 use Rattle.model.proofs.Trying.{Numbers, all-hold, tried-one, tried-refused, cause-one, cause-some}
 use Rattle.table.specs.declared.Judged.{Judged}
@@ -35,3 +38,7 @@ table-one t r s p q = go r s (tried-one (tableConditions t) (numberOf r) (number
     go Sound (Refused d) same = absurd (omega (arith, cause-some d))
     go (Refused c) Sound same = absurd (omega (arith, cause-some c))
     go (Refused c) (Refused d) same = ap Refused (cause-one c d same)
+
+pub level-one :
+    (frequencies : List ℕ) (load : Kilohertz) (r s : ℕ) → r ≡ lowest frequencies (load .0) → s ≡ lowest frequencies (load .0) → r ≡ s
+level-one frequencies load r s p q = p ∙ sym q

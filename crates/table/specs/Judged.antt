@@ -7,8 +7,8 @@ use Rattle.model.specs.Refusals.{Tried, tableConditions, causeNumber}
 use Rattle.table.specs.declared.Judged.{Judged}
 use Rattle.table.specs.declared.Judged.the-variants.{Sound, Refused}
 
--- the table that two lent lists are
-abbrev pub tableOf : List ℕ → List ℕ → Table
+-- the table that is made of two lent lists
+abbrev pub tableOf : (frequencies powers : List ℕ) → Table
 tableOf frequencies powers = record { frequencies = frequencies; powers = powers }
 
 -- 0 where the table is sound, else the number of the cause

@@ -18,7 +18,7 @@ job c =
     jobOf (c .args .islands) (c .args .cores) (c .args .power .0) (now (c .args .frequencies)) (now (c .args .powers)) (now (c .args .loads))
 
 abbrev ofBoard : tie.Start → List Condition
-ofBoard c = sizeConditions (job c .islands) (job c .cores) ++ (tableConditions (job c .table) ++ powerConditions (job c .power))
+ofBoard c = sizeConditions (job c .islands) (job c .cores) ++ (tableConditions (job c .table) ++ powerConditions (job c .island-power))
 
 abbrev ofLoads : tie.Start → List Condition
 ofLoads c = loadConditions (job c)
