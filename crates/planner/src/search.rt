@@ -282,7 +282,16 @@ pub(crate) fn search(
     let mut rows = [0u64; Board::PLACES];
     let mut m = 0;
     while m < islands {
-        runs_of(bests, positions, rates, &mut rows, cores, own, m);
+        // m is below MOST_ISLANDS, so the remainder is m itself; it tells the compiler how short the rows are, which halves the search.
+        runs_of(
+            bests,
+            positions,
+            rates,
+            &mut rows,
+            cores,
+            own,
+            m % MOST_ISLANDS,
+        );
         m += 1;
     }
 }

@@ -1,10 +1,11 @@
 -- `search` meets its contract. The loop's invariant: the table has the best of every run of at most m islands. Assumes nothing.
-use Prim.Native.Nat.{_-_, _≤_}
-use mathlib.Core.Path.{_≡_, refl, sym, _∙_}
+use Prim.Native.Nat.{ℕ, _-_, _%_, _≤_, _<_}
+use mathlib.Core.Path.{_≡_, refl, sym, _∙_, subst}
+use native.Mathlib.Nat.{mod-eq-of-lt}
 use native.Mathlib.Omega.{arith}
 use lib.ListN.{length}
-use Rattle.model.specs.Limits.{most-places}
-use Rattle.planner.specs.Square.{Found}
+use Rattle.model.specs.Limits.{most-islands, most-places}
+use Rattle.planner.specs.Square.{Found, Grown}
 use Rattle.planner.specs.Bounds.{Sized, Bounded}
 use Rattle.planner.proofs.Fitting.{still-sized}
 use Rattle.planner.proofs.Growing.{nothing-filled, nothing-bounded, grown-bounded, grown-filled}
@@ -38,6 +39,10 @@ sized :
     → Sized (c .before .before .before .before .before .args .cores) (c .before .before .before .before .before .args .positions .now) (c .before .loop .bests)
 sized c = still-sized _ _ _ _ (c .before .loop .inv .1) (c .before .before .before .before .before .pre .0)
 
+-- what the compiler is told of m changes nothing
+same : (m islands : ℕ) → m < islands → islands ≤ most-islands → m % most-islands ≡ m
+same m islands more few = mod-eq-of-lt (omega arith)
+
 slice-aggregate-runs-of : tie.Need-slice-aggregate-runs-of Inv-loop μ-loop
 slice-aggregate-runs-of c = sym (c .before .before .before .loop .inv .2)
 
@@ -46,7 +51,19 @@ runs-of-requires c κs =
     let run = c .before .before .before .before .before .before .before in
     let inv = c .before .before .before .loop .inv in (
       sized (c .before .before),
-      (run .pre .1 .0, ((run .pre .1 .1 .0, omega (arith, run .pre .1 .1 .1)), (inv .2, inv .3))),
+      (
+        run .pre .1 .0,
+        (
+          (run .pre .1 .1 .0, omega (arith, run .pre .1 .1 .1)),
+          (
+            inv .2,
+            subst
+                (λ (n : ℕ). Bounded (run .args .cores) (run .args .positions .now) (c .before .before .before .loop .bests) n)
+                (sym (same (c .before .before .before .loop .m) (run .args .islands) (omega arith) (run .pre .1 .1 .1)))
+                (inv .3),
+          ),
+        ),
+      ),
     )
 
 add-m : tie.Need-add-m Inv-loop μ-loop
@@ -60,7 +77,11 @@ loop-again c =
     let run = c .before .before .before .before .before .before .before .before .before .before .before in
     let turn = c .before .before .before .before .before .before .before .loop in
     let after = c .before .before .before .runs-of .last .0 in
-    let grown = c .before .before .before .runs-of .ensures in (
+    let grown : Grown (run .args .cores) (run .args .own .0) (run .args .positions .now) (run .args .rates .now) (turn .bests) after (turn .m) =
+    subst
+    (λ (n : ℕ). Grown (run .args .cores) (run .args .own .0) (run .args .positions .now) (run .args .rates .now) (turn .bests) after n)
+    (same (turn .m) (run .args .islands) (omega arith) (run .pre .1 .1 .1))
+    (c .before .before .before .runs-of .ensures) in (
       omega arith,
       c .before .before .before .runs-of .kept .0 ∙ turn .inv .1,
       c .before .before .before .runs-of .kept .1 .1 .1 .0 ∙ turn .inv .2,
