@@ -1,5 +1,6 @@
 #!/bin/sh
-# Links tests/c/board_cases.c with the static library at two levels of optimization, and runs both programs.
+# Calls the library from C: the README's example, the board cases, a second planner beside it, and damaged jobs. Then the same tests have to
+# find the faults of a spoiled library, and where the machine can they are watched by valgrind.
 set -u
 cd "$(dirname "$0")/.." || exit 1
 . tests/tools.sh
@@ -8,29 +9,83 @@ need_cc
 passed=0 failed=0
 room=$(mktemp -d) || exit 1
 trap 'rm -rf "$room"' EXIT
-
-if ! rt staticlib mizhgavul >"$room/said" 2>&1; then
-    cat "$room/said"
+if ! make_library; then
     echo "0 passed, 1 failed"
     exit 1
 fi
 
-# counted LEVEL: builds and runs at one level, shows what is wrong, and adds the counts. A program that is not built, counts nothing or
-# ends with another status than its counts say has failed.
+# The tests' own arithmetic is watched too: what C leaves undefined ends the program.
+watch="-fsanitize=undefined -fsanitize-undefined-trap-on-error"
+
+# judged NAME PASSED: counts one check
+judged() {
+    if [ "$2" -eq 0 ]; then passed=$((passed + 1)); else failed=$((failed + 1)) && say "failed: $1"; fi
+}
+
+# counted NAME LEVEL: builds and runs a test at a level of optimization, shows what it says, and adds its counts. A program that is not
+# built, counts nothing or ends with another status than its counts say has failed.
 counted() {
-    program=$room/board_cases$1 said=$room/said$1
-    $cc -std=c11 -Wall -Wextra -Werror "$1" -Iinclude tests/c/board_cases.c target/staticlib/libmizhgavul.a -o "$program" &&
-        emulate "$program" >"$said"
+    program=$room/$1$2 said=$room/said
+    : >"$said"
+    built "$program" "$2" $watch "tests/$1.c" tests/held.c && emulate "$program" >"$said"
     status=$?
-    counts=$(sed -n '$s/^\([0-9][0-9]*\) passed, \([0-9][0-9]*\) failed$/\1 \2/p' "$said" 2>/dev/null)
+    counts=$(sed -n '$s/^\([0-9][0-9]*\) passed, \([0-9][0-9]*\) failed$/\1 \2/p' "$said")
     good=${counts% *} bad=${counts#* }
-    [ ! -f "$said" ] || sed '/^[0-9]* passed, [0-9]* failed$/d' "$said"
-    echo "board_cases at $1: ${good:-0} passed, ${bad:-0} failed (exit status $status)"
+    sed '/^[0-9]* passed, [0-9]* failed$/d' "$said" | head -n 60
+    echo "$1 at $2: ${good:-0} passed, ${bad:-0} failed (exit status $status)"
     passed=$((passed + ${good:-0})) failed=$((failed + ${bad:-0}))
     if [ -z "$counts" ] || { [ "$status" -ne 0 ] && [ "$bad" -eq 0 ]; }; then failed=$((failed + 1)); fi
 }
 
-counted -O0
-counted -O2
+# finds NAME JOBS FAULT..: the test, with so many random jobs, has to end with a status of failure for each fault and tell what is wrong
+finds() {
+    name=$1 jobs=$2 program=$room/$1-spoiled
+    shift 2
+    built "$program" -O2 -Wl,--wrap=mizhgavul_plan "tests/$name.c" tests/held.c tests/spoiled.c || { judged "$name is built" 1 && return; }
+    for fault in "$@"; do
+        SPOILED=$fault emulate "$program" $jobs >"$room/said"
+        if [ "$?" -ne 0 ] && grep -q '^wrong: \|^memory was touched' "$room/said"; then found=0; else found=1; fi
+        judged "$name finds the fault $fault" "$found"
+    done
+    say "$name found $# faults of a spoiled library, where it did not say otherwise"
+}
+
+# watched NAME JOBS: under valgrind, at the level that shows most
+watched() {
+    program=$room/$1-watched
+    built "$program" -O1 -g "tests/$1.c" tests/held.c &&
+        valgrind --quiet --error-exitcode=9 "$program" $2 >"$room/said" 2>&1
+    status=$?
+    [ "$status" -eq 0 ] || head -n 60 "$room/said"
+    judged "$1 under valgrind" "$status"
+}
+
+say "the example"
+built "$room/first_plan" -O2 examples/first_plan.c && emulate "$room/first_plan" | diff - examples/first_plan.stdout
+judged "examples/first_plan.c prints what examples/first_plan.stdout has" $?
+
+say "answers, totals and bytes"
+counted board_cases -O0
+counted board_cases -O2
+counted second_planner -O2
+counted hostile -O2
+
+say "faults of a spoiled library"
+anywhere="total_higher equal_loads_exchanged inactive_level plan_byte_beyond level_byte_beyond byte_before_plan load_read_beyond
+    frequency_read_before load_written refusal_total plan_first speed_before_order empty_list_refused empty_plan_refused"
+damaged="islands_cut last_load_cut island_power_past"
+finds board_cases "" $anywhere $damaged
+finds second_planner 2000 $anywhere
+finds hostile 2000 $anywhere $damaged
+
+say "memory"
+if [ "$(uname -m)" = x86_64 ] && { command -v valgrind || add valgrind; } >/dev/null 2>&1; then
+    watched board_cases ""
+    watched second_planner 500
+    watched hostile 1000
+else
+    say "valgrind can't be had for x86-64 code on this machine: closed pages around every list and buffer, and marked bytes, stand alone"
+fi
+
 echo "$passed passed, $failed failed"
 [ "$failed" -eq 0 ] && [ "$passed" -gt 0 ]

@@ -44,6 +44,20 @@ links_c() {
     return $linked
 }
 
+# make_library: writes the library for callers in C; where that fails, shows what the toolchain said
+make_library() {
+    said=$(rt staticlib mizhgavul 2>&1) && return 0
+    printf '%s\n' "$said"
+    return 1
+}
+
+# built FILE WORD..: compiles and links a program in C with that library
+built() {
+    file=$1
+    shift
+    $cc -std=c11 -Wall -Wextra -Werror -Iinclude "$@" target/staticlib/libmizhgavul.a -o "$file"
+}
+
 # emulate FILE WORD..: runs x86-64 code; where the machine is another one, the toolchain has an emulator
 emulate() {
     emulator=$(kit)/bin/qemu-x86_64

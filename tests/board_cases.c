@@ -1,11 +1,9 @@
 /* Calls the planner through its C interface: the board cases, then jobs that are easy to answer wrongly. Each is planned with buffers that
- * fit exactly, that are longer, and that are too short. Held to the table below are the answer, the total and every byte of both buffers,
- * with the bytes before and behind them. The last line is 'N passed, M failed'.
+ * fit exactly, that are longer, and that are too short, and held to the table below. The last line is 'N passed, M failed'.
  */
-#include "mizhgavul.h"
+#include "held.h"
 
 #include <stdio.h>
-#include <string.h>
 
 struct words {
     const uint32_t *at;
@@ -33,7 +31,6 @@ struct row {
     struct bytes plan, levels;
 };
 
-/* The lists are constants, and where the compiler puts them into memory that is only read, a write to one ends the program. */
 #define LIST(type, ...) {(const type[]){__VA_ARGS__}, sizeof((const type[]){__VA_ARGS__}) / sizeof(type)}
 #define WORDS(...) LIST(uint32_t, __VA_ARGS__)
 #define LOADS(...) LIST(uint64_t, __VA_ARGS__)
@@ -115,89 +112,41 @@ static const struct row rows[] = {
     {"1 before all others", 9, 9, 1000000001, NO_WORDS, WORDS(0), LOADS(4295067296, 4295067295), REFUSED(1)},
 };
 
-static const struct bytes nothing = NO_BYTES;
-
 /* How many bytes more than the job needs are lent. */
-struct room {
+struct spare {
     const char *name;
     int plan, levels;
 };
 
-enum { MOST_PLAN = 65, MOST_LEVELS = 8, SPARE = 40, GUARD = 64 };
+enum { MOST_LEVELS = 8, SPARE = 40, ALL = -128 };
 
-static const struct room rooms[] = {
+static const struct spare spares[] = {
     {"exact buffers", 0, 0},
     {"longer buffers", SPARE, SPARE},
     {"a plan byte short", -1, SPARE},
     {"a level byte short", SPARE, -1},
-    {"empty buffers", -MOST_PLAN, -MOST_LEVELS},
+    {"empty buffers", ALL, ALL},
 };
-
-/* A lent buffer between guards. */
-struct zone {
-    uint8_t bytes[GUARD + MOST_PLAN + SPARE + GUARD];
-};
-
-/* Every byte has a value by its place, and none that the planner writes. */
-static void fill(struct zone *zone)
-{
-    for (size_t k = 0; k < sizeof zone->bytes; k++)
-        zone->bytes[k] = (uint8_t)(0x80 + k % 0x80);
-}
-
-/* The zone as it has to be left: written over from the buffer's start, and nowhere else. */
-static int left_as(const struct zone *zone, struct bytes written)
-{
-    struct zone expected;
-
-    fill(&expected);
-    memcpy(expected.bytes + GUARD, written.at, written.n);
-    return memcmp(zone->bytes, expected.bytes, sizeof expected.bytes) == 0;
-}
 
 static size_t lent(uint64_t needed, int more)
 {
     return more < 0 && needed < (uint64_t)-more ? 0 : (size_t)needed + (size_t)more;
 }
 
-static int fault(const struct row *row, const struct room *room, const char *what)
+/* Plans one row with one length of each buffer; says what is wrong and returns whether anything is. */
+static int wrong(const struct row *row, const struct spare *spare)
 {
-    printf("%s, %s: %s\n", row->name, room->name, what);
-    return 1;
-}
+    uint64_t levels_needed = row->islands < MOST_LEVELS ? row->islands : MOST_LEVELS;
+    struct job job = {row->islands, row->cores, row->island_power,
+                      row->frequencies.at, row->frequencies.n, row->powers.at, row->powers.n, row->loads.at, row->loads.n,
+                      lent(row->loads.n, spare->plan), lent(levels_needed, spare->levels)};
+    struct answer planned = {0, row->total, row->plan.at, row->plan.n, row->levels.at, row->levels.n};
+    int narrow = job.plan_len < row->plan.n || job.levels_len < row->levels.n;
+    struct answer expected = row->answer != 0 ? refusal(row->answer) : narrow ? refusal(9) : planned;
+    char name[80];
 
-/* Plans one row with one room; says what is wrong and returns whether anything is. */
-static int wrong(const struct row *row, const struct room *room)
-{
-    const uint64_t garbage = 0xdeadbeefcafef00d;
-    uint64_t totals[] = {garbage, garbage, garbage};
-    struct zone plan, levels;
-    size_t plan_len = lent(row->loads.n, room->plan);
-    size_t levels_len = lent(row->islands < MOST_LEVELS ? row->islands : MOST_LEVELS, room->levels);
-    int refused = row->answer != 0, narrow = plan_len < row->plan.n || levels_len < row->levels.n;
-    uint32_t expected = refused ? row->answer : narrow ? 9 : 0;
-    uint32_t answer;
-    int faults = 0;
-
-    fill(&plan);
-    fill(&levels);
-    answer = mizhgavul_plan(row->islands, row->cores, row->island_power,
-                            row->frequencies.at, row->frequencies.n, row->powers.at, row->powers.n,
-                            row->loads.at, row->loads.n,
-                            plan.bytes + GUARD, plan_len, levels.bytes + GUARD, levels_len, &totals[1]);
-    if (answer != expected) {
-        printf("%s, %s: answer %u, not %u\n", row->name, room->name, (unsigned)answer, (unsigned)expected);
-        faults++;
-    }
-    if (totals[1] != (expected ? 0 : row->total))
-        faults += fault(row, room, "the total");
-    if (totals[0] != garbage || totals[2] != garbage)
-        faults += fault(row, room, "a number beside the total");
-    if (!left_as(&plan, expected ? nothing : row->plan))
-        faults += fault(row, room, "the bytes of the plan buffer or around it");
-    if (!left_as(&levels, expected ? nothing : row->levels))
-        faults += fault(row, room, "the bytes of the level buffer or around it");
-    return faults > 0;
+    snprintf(name, sizeof name, "%s, %s", row->name, spare->name);
+    return differs(name, &job, &expected) > 0;
 }
 
 int main(void)
@@ -205,8 +154,8 @@ int main(void)
     unsigned passed = 0, failed = 0;
 
     for (size_t k = 0; k < sizeof rows / sizeof rows[0]; k++)
-        for (size_t j = 0; j < sizeof rooms / sizeof rooms[0]; j++)
-            if (wrong(&rows[k], &rooms[j]))
+        for (size_t j = 0; j < sizeof spares / sizeof spares[0]; j++)
+            if (wrong(&rows[k], &spares[j]))
                 failed++;
             else
                 passed++;
