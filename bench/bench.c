@@ -243,22 +243,25 @@ static void measure(const struct job *job, double each[PLANNERS])
 
 static const double MOST_OVER_PLAIN = 1.5, LEAST_GAIN = 20;
 
-/* Says whether the two goals hold: for the planner beside plain C in the rows, and beside Algorithm 3 in the first. */
-static void say_goals(int slow_rows, double gain)
+static void say_goal(int met, const char *of)
 {
-    if (slow_rows == 0)
-        printf("goal met: the planner takes at most %.1f times as long as plain C in every row\n", MOST_OVER_PLAIN);
-    else
-        printf("goal missed: the planner takes more than %.1f times as long as plain C in %d of %d rows\n",
-               MOST_OVER_PLAIN, slow_rows, (int)ROWS);
-    printf("goal %s: on the full 8 x 8 the planner is %.1f times as fast as Algorithm 3, and %.0f times is wanted\n",
-           gain >= LEAST_GAIN ? "met" : "missed", gain, LEAST_GAIN);
+    printf("goal %s: %s\n", met ? "met" : "missed", of);
+}
+
+/* Says whether the goals hold: for the planner beside plain C in the first row and in all, and beside Algorithm 3 in the first. */
+static void say_goals(double first_over_plain, int slow_rows, double first_gain)
+{
+    say_goal(first_over_plain <= MOST_OVER_PLAIN, "on the full 8 x 8 the planner takes at most 1.5 times as long as plain C");
+    say_goal(slow_rows == 0, "so it does in every row");
+    if (slow_rows > 0)
+        printf("             in %d of %d it does not\n", slow_rows, (int)ROWS);
+    say_goal(first_gain >= LEAST_GAIN, "on the full 8 x 8 the planner is at least 20 times as fast as Algorithm 3");
 }
 
 static int bench(void)
 {
     int slow_rows = 0, faults = 0;
-    double first_gain = 0;
+    double first_over_plain = 0, first_gain = 0;
 
     printf("%-34s %12s %12s %14s %14s %20s\n", "nanoseconds a plan", "planner", "plain C", "Algorithm 3", "planner/plain",
            "Algorithm 3/planner");
@@ -277,13 +280,15 @@ static int bench(void)
                each[ALGORITHM3] * 1e9, over_plain, gain, comparable(&workloads[k]) ? "" : " *");
         fflush(stdout);
         slow_rows += over_plain > MOST_OVER_PLAIN;
-        if (k == 0)
+        if (k == 0) {
+            first_over_plain = over_plain;
             first_gain = gain;
+        }
     }
     if (faults > 0)
         return 1;
     printf("* totals not comparable: Algorithm 3 charges the island power to runs of zeros, and its total is only held not to be lower\n");
-    say_goals(slow_rows, first_gain);
+    say_goals(first_over_plain, slow_rows, first_gain);
     return 0;
 }
 

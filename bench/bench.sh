@@ -25,7 +25,7 @@ if [ -x "$emulator" ]; then
 else
     emulator=
     flags="-O3 -march=native"
-    runs=natively
+    runs="natively, on $(sed -n 's/^model name[^:]*: *//p' /proc/cpuinfo | sed -n 1p)"
 fi
 
 for file in plain algorithm3 bench; do
@@ -51,13 +51,31 @@ over() {
     printf '%d.%02d' $((hundredths / 100)) $((hundredths % 100))
 }
 
+# goal A B WORD..: says whether A is at most B, which is what the words say
+goal() {
+    met=missed
+    [ "$1" -gt "$2" ] || met=met
+    shift 2
+    echo "goal $met: $*"
+}
+
 form='%-34s %12s %12s %14s %14s %20s\n'
 echo
 printf "$form" "instructions a plan" planner "plain C" "Algorithm 3" planner/plain "Algorithm 3/planner"
-row=0
 emulate "$room/bench" names >"$room/names" || exit 1
+row=0 above=0
 while read -r name; do
     row=$((row + 1))
     planner=$(a_plan $row planner) plain=$(a_plan $row plain) paper=$(a_plan $row algorithm3)
+    if [ "$planner" -le 0 ] || [ "$plain" -le 0 ]; then
+        say "this emulator counts no instructions"
+        exit 1
+    fi
     printf "$form" "$name" "$planner" "$plain" "$paper" "$(over "$planner" "$plain")" "$(over "$paper" "$planner")"
+    [ $((2 * planner)) -le $((3 * plain)) ] || above=$((above + 1))
+    [ $row -ne 1 ] || full_planner=$planner full_plain=$plain full_paper=$paper
 done <"$room/names"
+goal $((2 * full_planner)) $((3 * full_plain)) "on the full 8 x 8 the planner takes at most 1.5 times the instructions of plain C"
+goal $above 0 "so it does in every row"
+[ $above -eq 0 ] || echo "             in $above of $row it does not"
+goal $((20 * full_planner)) "$full_paper" "on the full 8 x 8 the planner takes at most a twentieth of the instructions of Algorithm 3"

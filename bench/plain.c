@@ -95,11 +95,14 @@ static uint64_t member_cost(const struct board *board, const uint64_t *below, si
 }
 
 /* Fills the rows of all members but the highest of a run of m + 1 islands. Row r has, for n islands in the gaps, what the lowest r + 1
- * members cost with these gaps. */
-static void fill_rows(const struct board *board, uint64_t rows[][MOST_ISLANDS], size_t start, uint64_t rate, size_t m)
+ * members cost with these gaps. The compiler is told how short the rows are, as that of the planner is. */
+static inline __attribute__((always_inline)) void fill_rows(const struct board *board, uint64_t rows[][MOST_ISLANDS], size_t start,
+                                                            uint64_t rate, size_t m)
 {
     size_t cores = board->cores;
 
+    if (m >= MOST_ISLANDS || cores > MOST_CORES)
+        __builtin_unreachable();
     for (size_t n = 0; n <= m; n++) {
         size_t at = start + n * cores;
 

@@ -7,8 +7,8 @@
  * beforehand: what does not fit is refused.
  *
  * The total is with each level's cost rounded up to whole femtojoules per cycle. It is never below the plan's exact power, and above it
- * by less than one picowatt for each kilohertz of load; where all loads are 0 both are 0. The plan's exact power exceeds no placement's by more
- * than one picowatt for each kilohertz of load, and where no cost has to be rounded no placement's is lower.
+ * by less than one picowatt for each kilohertz of load; where all loads are 0 both are 0. The plan's exact power exceeds no placement's by
+ * more than one picowatt for each kilohertz of load, and where no cost has to be rounded no placement's is lower.
  *
  * Units    frequencies and loads in kilohertz (kilocycles per second), powers in microwatts, the total in picowatts;
  *          1 microwatt is 1000000 picowatts
@@ -50,17 +50,17 @@ extern "C" {
  * What comes out of a plan. The function returns 0.
  *
  *   plan        the first n bytes are written, one for each load in its order: the number of its island, 1 to V
- *   levels      the first V bytes are written, one for each island: 0 where no load on it is above 0, else the number of its level. The level
- *               with the lowest frequency has number 1. An island has the lowest level whose frequency is at least its heaviest load
- *   *total_pw   the total in picowatts: the sum over the islands whose level is not 0, each with the island power times 1000000 and with the
- *               sum of its loads times the cost of its level. The cost of a level is its power times 1000000, divided by its frequency,
+ *   levels      the first V bytes are written, one for each island: 0 where no load on it is above 0, else the number of its level. The
+ *               level with the lowest frequency has number 1. An island has the lowest level whose frequency is at least its heaviest load
+ *   *total_pw   the total in picowatts: the sum over the islands whose level is not 0, each with the island power times 1000000 and with
+ *               the sum of its loads times the cost of its level. The cost of a level is its power times 1000000, divided by its frequency,
  *               rounded up to a whole number: femtojoules per cycle. A kilohertz at one femtojoule per cycle is one picowatt
  *
  * Which plan it is. Put loads of 0 in front of the list until the board is full: every island holds exactly Q places of that longer list.
  * Islands are numbered by their last place, lowest first, so the last load is on island V, and islands that are left idle have the low
  * numbers. No two islands take turns: nowhere in that list do a place of the one, then of the other, then of the one and then of the other
- * again follow in this order, with any others between. Of such plans with the least total, read the places of island V from the last down: it
- * is the plan that has the later place at the first difference. The stretches between these places, and the one before them, hold whole
+ * again follow in this order, with any others between. Of such plans with the least total, read the places of island V from the last down:
+ * it is the plan that has the later place at the first difference. The stretches between these places, and the one before them, hold whole
  * islands or nothing. Each is planned by the same rule by itself: of its own least-total plans in which no two islands take turns, the one
  * whose island of the stretch's last place has the later place at the first difference.
  *

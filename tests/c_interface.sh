@@ -17,9 +17,18 @@ fi
 # The tests' own arithmetic is watched too: what C leaves undefined ends the program.
 watch="-fsanitize=undefined -fsanitize-undefined-trap-on-error"
 
-# judged NAME PASSED: counts one check
-judged() {
-    if [ "$2" -eq 0 ]; then passed=$((passed + 1)); else failed=$((failed + 1)) && say "failed: $1"; fi
+pass() { passed=$((passed + 1)); }
+
+# fail WORD..: counts a failure, and says of what
+fail() {
+    failed=$((failed + 1))
+    say "failed: $*"
+}
+
+# parts NAME: the files of a test
+parts() {
+    echo "tests/$1.c tests/held.c"
+    [ "$1" != hostile ] || echo bench/plain.c
 }
 
 # counted NAME LEVEL: builds and runs a test at a level of optimization, shows what it says, and adds its counts. A program that is not
@@ -27,7 +36,7 @@ judged() {
 counted() {
     program=$room/$1$2 said=$room/said
     : >"$said"
-    built "$program" "$2" $watch "tests/$1.c" tests/held.c && emulate "$program" >"$said"
+    built "$program" "$2" $watch $(parts "$1") && emulate "$program" >"$said"
     status=$?
     counts=$(sed -n '$s/^\([0-9][0-9]*\) passed, \([0-9][0-9]*\) failed$/\1 \2/p' "$said")
     good=${counts% *} bad=${counts#* }
@@ -37,32 +46,43 @@ counted() {
     if [ -z "$counts" ] || { [ "$status" -ne 0 ] && [ "$bad" -eq 0 ]; }; then failed=$((failed + 1)); fi
 }
 
-# finds NAME JOBS FAULT..: the test, with so many random jobs, has to end with a status of failure for each fault and tell what is wrong
+# finds NAME JOBS FAULT..: with each fault the test, over so many random jobs, has to fail and to tell what is wrong
 finds() {
-    name=$1 jobs=$2 program=$room/$1-spoiled
+    name=$1 jobs=$2 program=$room/$1-spoiled found=0
     shift 2
-    built "$program" -O2 -Wl,--wrap=mizhgavul_plan "tests/$name.c" tests/held.c tests/spoiled.c || { judged "$name is built" 1 && return; }
-    for fault in "$@"; do
-        SPOILED=$fault emulate "$program" $jobs >"$room/said"
-        if [ "$?" -ne 0 ] && grep -q '^wrong: \|^memory was touched' "$room/said"; then found=0; else found=1; fi
-        judged "$name finds the fault $fault" "$found"
+    built "$program" -O2 -Wl,--wrap=mizhgavul_plan $(parts "$name") tests/spoiled.c
+    for SPOILED in "$@"; do
+        export SPOILED
+        if emulate "$program" $jobs >"$room/said" || ! grep -q '^wrong: \|^memory was touched' "$room/said"; then
+            fail "$name does not find the fault $SPOILED"
+        else
+            pass
+            found=$((found + 1))
+        fi
     done
-    say "$name found $# faults of a spoiled library, where it did not say otherwise"
+    echo "$name found $found of $# faults"
 }
 
 # watched NAME JOBS: under valgrind, at the level that shows most
 watched() {
     program=$room/$1-watched
-    built "$program" -O1 -g "tests/$1.c" tests/held.c &&
-        valgrind --quiet --error-exitcode=9 "$program" $2 >"$room/said" 2>&1
-    status=$?
-    [ "$status" -eq 0 ] || head -n 60 "$room/said"
-    judged "$1 under valgrind" "$status"
+    if built "$program" -O1 -g $(parts "$1") &&
+        valgrind --quiet --error-exitcode=9 "$program" $2 >"$room/said" 2>&1; then
+        pass
+        echo "$1 ran under valgrind"
+    else
+        head -n 60 "$room/said"
+        fail "$1 under valgrind"
+    fi
 }
 
 say "the example"
-built "$room/first_plan" -O2 examples/first_plan.c && emulate "$room/first_plan" | diff - examples/first_plan.stdout
-judged "examples/first_plan.c prints what examples/first_plan.stdout has" $?
+if built "$room/first_plan" -O2 examples/first_plan.c && emulate "$room/first_plan" >"$room/said" &&
+    diff "$room/said" examples/first_plan.stdout; then
+    pass
+else
+    fail "examples/first_plan.c prints what examples/first_plan.stdout has"
+fi
 
 say "answers, totals and bytes"
 counted board_cases -O0
@@ -71,8 +91,9 @@ counted second_planner -O2
 counted hostile -O2
 
 say "faults of a spoiled library"
-anywhere="total_higher equal_loads_exchanged inactive_level plan_byte_beyond level_byte_beyond byte_before_plan load_read_beyond
-    frequency_read_before load_written refusal_total plan_first speed_before_order empty_list_refused empty_plan_refused"
+anywhere="total_higher equal_loads_exchanged inactive_level sorted_filling fewest_islands plan_byte_beyond level_byte_beyond
+    byte_before_plan load_read_beyond frequency_read_before load_written refusal_total plan_first speed_before_order
+    empty_list_refused empty_plan_refused"
 damaged="islands_cut last_load_cut island_power_past"
 finds board_cases "" $anywhere $damaged
 finds second_planner 2000 $anywhere

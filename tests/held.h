@@ -1,5 +1,5 @@
 /* Holds the library to an expected answer: the answer, the total, and every byte lent or near what was lent.
- * Assumes a machine whose pages can be closed to the program; a touch of one of those ends it, and says at which job.
+ * Assumes pages of 4096 bytes that can be closed to the program. A touch of a closed one ends it, and it says at which job.
  */
 #ifndef HELD_H
 #define HELD_H

@@ -1,20 +1,23 @@
-/* Damaged jobs at random: whether the library refuses each with the number that 01's table of causes asks for, and plans the others.
+/* Damaged jobs at random, on boards of all sizes: whether the library refuses each with the number that 01's table of causes asks for, and
+ * plans the others.
  *
  * A job starts sound and is damaged in up to four ways at once, at and one past every bound and far beyond. The refusal that it has to get
  * is worked out here from that table alone. Each job is planned between closed pages, so every byte lent or near it counts (held.h).
- * Takes the number of jobs, for slow checkers; fewer than the default are not asked to bring every refusal, damage and pair of causes.
- * Assumes that held.c is right. Of a plan it asks only what can be said without planning: see plans_right.
+ * A plan is held to what can be said of it without planning, and to that of bench/plain.c: see plans_right.
+ *
+ * The number of jobs may be given as an argument, for slow checkers. From the usual number on, a refusal, a pair of causes or a kind of
+ * damage that never came up is a fault too, because the run has not tested it.
  */
 #include "held.h"
 
-#include "mizhgavul.h"
+#include "../bench/baselines.h"
 
 #include <inttypes.h>
 #include <stdio.h>
 #include <stdlib.h>
 #include <string.h>
 
-enum { DEFAULT_JOBS = 24000, LEAST_REFUSED = 200, MOST_DAMAGES = 4, CAUSES = 9 };
+enum { USUAL_JOBS = 30000, LEAST_DAMAGED = 20000, LEAST_REFUSED = 200, MOST_DAMAGES = 4, CAUSES = 9 };
 enum { MOST_LEVELS = MOST_LIST / sizeof(uint32_t), MOST_LOADS = MOST_LIST / sizeof(uint64_t) };
 
 #define TWO_32 (UINT64_C(1) << 32)
@@ -173,18 +176,18 @@ static const char *fault_of_plan(const struct job *job, const uint8_t *plan, con
     return total == due ? NULL : "the total is not that of the plan";
 }
 
-/* The bytes of a first call are held to what can be said of them, and then expected of the two calls between closed pages. This shows that
- * three calls give one sound plan with its true total, and touch nothing else. That no placement has a lower total, and that among equals
- * this plan is the one due, is not asked.
+/* What is expected is what the same recurrence in plain C gives, once that is held to what can be said of a plan. So the plan is sound on
+ * boards of all sizes, its total is its own, and two compilers agree on it. That no placement has a lower total and that the rule names
+ * this plan is second_planner.c's to try, on boards that are small enough.
  */
 static int plans_right(const char *name, const struct job *job)
 {
     uint8_t plan[MOST_BUFFER] = {0}, levels[MOST_BUFFER] = {0};
     uint64_t total = UINT64_MAX;
-    uint32_t number = mizhgavul_plan(job->islands, job->cores, job->island_power, job->frequencies, job->n_frequencies,
-                                     job->powers, job->n_powers, job->loads, job->n_loads,
-                                     plan, job->plan_len, levels, job->levels_len, &total);
-    const char *fault = number ? "a sound job is refused" : fault_of_plan(job, plan, levels, total);
+    uint32_t number = plain_plan(job->islands, job->cores, job->island_power, job->frequencies, job->n_frequencies,
+                                 job->powers, job->n_powers, job->loads, job->n_loads,
+                                 plan, job->plan_len, levels, job->levels_len, &total);
+    const char *fault = number ? "plain C refuses a sound job" : fault_of_plan(job, plan, levels, total);
     struct answer expected = {0, total, plan, job->n_loads, levels, job->islands};
 
     if (fault) {
@@ -538,7 +541,7 @@ enum { DAMAGES = sizeof damages / sizeof damages[0] };
 
 /* applied[i][j]: jobs refused by i to which cause j applies, so applied[i][i] are all refused by i. */
 static struct {
-    uint64_t applied[1 + CAUSES][1 + CAUSES], at_once[1 + CAUSES], in_spite, done[DAMAGES], accepted[DAMAGES];
+    uint64_t applied[1 + CAUSES][1 + CAUSES], at_once[1 + CAUSES], damaged, in_spite, done[DAMAGES], accepted[DAMAGES];
 } counts;
 
 /* Does up to four damages, and adds their names to that of the job. Every second time only later ones, which early causes would hide. */
@@ -584,6 +587,7 @@ static int passes(struct draft *d, uint64_t number)
     draw_job(d, 1 + number % 8, 1 + number / 8 % 8);
     any = do_damage(d, done, name, sizeof name);
     expected = refusal(refusal_due(&d->job));
+    counts.damaged += any;
     counts.in_spite += any && !expected.number;
     for (size_t r = 0; r < DAMAGES; r++) {
         counts.done[r] += done[r];
@@ -604,7 +608,8 @@ static unsigned report(int all)
 {
     unsigned low = 0;
 
-    show("accepted ", counts.at_once[0], 0);
+    low += show("damaged ", counts.damaged, all ? LEAST_DAMAGED : 0);
+    show(", accepted ", counts.at_once[0], 0);
     show(", of these in spite of damage ", counts.in_spite, 0);
     for (uint32_t i = 1; i <= CAUSES; i++) {
         printf("\nrefused by %" PRIu32 ", then of these with each later cause too:", i);
@@ -627,7 +632,7 @@ static unsigned report(int all)
 int main(int argc, char **argv)
 {
     static struct draft draft;
-    uint64_t jobs = argc > 1 ? strtoull(argv[1], NULL, 10) : DEFAULT_JOBS, passed = 0, failed;
+    uint64_t jobs = argc > 1 ? strtoull(argv[1], NULL, 10) : USUAL_JOBS, passed = 0, failed;
 
     if (jobs == 0) {
         printf("the number of jobs has to be 1 or more\n");
@@ -636,7 +641,7 @@ int main(int argc, char **argv)
     printf("seed %" PRIu64 ", %" PRIu64 " jobs\n", dice.state, jobs);
     for (uint64_t number = 0; number < jobs; number++)
         passed += passes(&draft, number);
-    failed = jobs - passed + report(jobs >= DEFAULT_JOBS);
+    failed = jobs - passed + report(jobs >= USUAL_JOBS);
     printf("%" PRIu64 " passed, %" PRIu64 " failed\n", passed, failed);
     return failed ? 1 : 0;
 }

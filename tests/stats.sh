@@ -40,8 +40,8 @@ fi
     echo "# What each crate holds"
     echo
     echo "Written by \`make stats\`: $(rt version), on $(uname -m), crates checked one after another."
-    echo "Lines are those that are neither empty nor a comment alone; contracts stand in the code, and count as code. Seconds are those of one"
-    echo "check from nothing, proofs and code together. Edits are the must-fail edits, each of which costs the gate one more check of its crate."
+    echo "Lines are those that are neither empty nor a comment alone; contracts stand in the code, and count as code. Seconds are those of"
+    echo "one check from nothing, proofs and code together. Edits are the must-fail edits, each of which costs the gate one more check."
     echo
     echo "| crate | code | specs | proofs | functions | check, s | edits |"
     echo "|---|---:|---:|---:|---:|---:|---:|"

@@ -21,8 +21,8 @@ need_rt() {
     exit 1
 }
 
-# need_cc: leaves in cc the words that compile and link C for x86-64, which is what rt builds. On another machine they link the C library in,
-# because the emulator is given no other.
+# need_cc: leaves in cc the words that compile and link C for x86-64, which is what rt builds. On another machine they link the C library
+# in, because the emulator is given no other.
 need_cc() {
     if [ "$(uname -m)" = x86_64 ]; then
         cc=gcc packages="gcc libc6-dev"

@@ -2,7 +2,7 @@
 --     board-refused    sizes that do not fit are refused by 1
 --     board-made       sizes that fit make the board
 --     board-one        two answers to one call are equal
---     allowed-one      so are two answers of `power_allowed` to one board
+--     allowed-one      so are two answers of `power_allowed` to one board, by the equation of its contract
 -- Assumes nothing.
 use Prim.Native.Nat.{ℕ}
 use mathlib.Core.Path.{_≡_, refl, sym, ap, _∙_}

@@ -9,7 +9,7 @@
 --     cause-one        two causes with one number are equal
 --     cause-some       no cause has the number 0
 --     planned-one      two answers with one number and one total are equal
---     number-one       two answers of `number` to one cause are equal
+--     number-one       two answers of `number` to one cause are equal, by the equation of its contract
 -- Assumes nothing.
 use Prim.Native.Nat.{ℕ, _-_, _≤_, _<_}
 use mathlib.Core.Path.{_≡_, refl, sym, ap, _∙_, subst}

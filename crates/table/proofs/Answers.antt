@@ -2,7 +2,7 @@
 --     answer-refused    a cause stays the first, whatever is tried after it
 --     answer-sound      where nothing is refused all hold
 --     table-one         two answers to one table are equal
---     level-one         so are two answers of `level` to one list of frequencies and one load
+--     level-one         so are two answers of `level` to one list of frequencies and one load, by the equation of its contract
 -- Assumes nothing.
 use Prim.Native.Nat.{ℕ, _<_}
 use mathlib.Core.Path.{_≡_, refl, sym, ap, _∙_, subst}

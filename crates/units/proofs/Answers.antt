@@ -1,5 +1,8 @@
 -- No second answer fits a call of these functions: each contract is an equation for the only field, or for the bool.
--- Assumes nothing.
+--     of-level-one     two answers of `Kilohertz::of_level` to one frequency are equal
+--     carries-one      two of `Kilohertz::carries` to one level and one load
+--     picowatts-one    two of `Microwatts::picowatts` to one power
+-- The premises are the equations of the contracts. Assumes nothing.
 use Prim.Native.Nat.{ℕ, _*_}
 use mathlib.Core.Path.{_≡_, sym, ap, _∙_}
 use mathlib.Core.Bool.{Bool}
