@@ -4,7 +4,6 @@
  */
 #define _POSIX_C_SOURCE 199309L
 #include "baselines.h"
-#include "mizhgavul.h"
 
 #include <stdio.h>
 #include <stdlib.h>
@@ -13,14 +12,6 @@
 
 enum { MOST_ISLANDS = 8, MOST_PLACES = 64, MOST_LEVELS = 32 };
 enum { PICOWATTS = 1000000 };
-
-typedef uint32_t planner(uint64_t islands, uint64_t cores, uint32_t island_power_uw,
-                         const uint32_t *frequencies_khz, size_t n_frequencies,
-                         const uint32_t *powers_uw, size_t n_powers,
-                         const uint64_t *loads_khz, size_t n_loads,
-                         uint8_t *plan, size_t plan_len,
-                         uint8_t *levels, size_t levels_len,
-                         uint64_t *total_pw);
 
 enum { LIBRARY, PLAIN, ALGORITHM3, PLANNERS };
 

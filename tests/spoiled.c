@@ -17,8 +17,8 @@ struct call {
     uint64_t *total;
 };
 
-uint32_t __real_mizhgavul_plan(uint64_t, uint64_t, uint32_t, const uint32_t *, size_t, const uint32_t *, size_t, const uint64_t *, size_t,
-                               uint8_t *, size_t, uint8_t *, size_t, uint64_t *);
+/* The linker gives the library's function the first name, and calls of it the second. */
+__typeof__(mizhgavul_plan) __real_mizhgavul_plan, __wrap_mizhgavul_plan;
 
 static uint32_t sound(const struct call *c)
 {
