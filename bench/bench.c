@@ -36,7 +36,7 @@ struct workload {
 
 #define FULL(islands, cores) {#islands " x " #cores " full", islands, cores, (islands) * (cores), 50000, 32, DIFFERENT}
 
-/* The first row is the one that the second goal is about. The twelve boards at the end are those of the paper's figure 8. */
+/* The first row is the board that the goals name. The twelve boards at the end are those of the paper's figure 8. */
 static const struct workload workloads[] = {
     {"8 x 8 full", 8, 8, 64, 50000, 32, DIFFERENT},
     {"8 x 8 full, 3 levels", 8, 8, 64, 50000, 3, DIFFERENT},
