@@ -1,3 +1,4 @@
+/* What held.h gives. A list or a buffer has a room of its own, between two closed pages, and is put against either end of it. */
 #define _DEFAULT_SOURCE
 #include "held.h"
 
@@ -28,9 +29,9 @@ static struct {
 static const char *current_name = "no job";
 static const struct job *current;
 
-static void fail(const char *what)
+void give_up(const char *why)
 {
-    printf("%s\n", what);
+    printf("%s\n", why);
     exit(2);
 }
 
@@ -65,7 +66,7 @@ static void open_room(struct room *room, size_t size)
     uint8_t *all = mmap(NULL, page + size + page, PROT_NONE, MAP_PRIVATE | MAP_ANONYMOUS, -1, 0);
 
     if (size % page || all == MAP_FAILED || mprotect(all + page, size, PROT_READ | PROT_WRITE))
-        fail("no memory between closed pages is to be had");
+        give_up("no memory between closed pages is to be had");
     room->start = all + page;
     room->size = size;
 }
@@ -99,7 +100,7 @@ static void open_rooms(void)
 static uint8_t *place(const struct room *room, size_t bytes, enum edge edge)
 {
     if (bytes > room->size)
-        fail("a list or a buffer is too long for this test");
+        give_up("a list or a buffer is too long for this test");
     return edge == AGAINST_END ? room->start + room->size - bytes : room->start;
 }
 
@@ -109,11 +110,11 @@ static const void *lend_list(const struct room *room, const void *list, size_t b
     uint8_t *at = place(room, bytes, edge);
 
     if (mprotect(room->start, room->size, PROT_READ | PROT_WRITE))
-        fail("a room can't be opened");
+        give_up("a room can't be opened");
     if (bytes)
         memcpy(at, list, bytes);
     if (mprotect(room->start, room->size, PROT_READ))
-        fail("a room can't be closed");
+        give_up("a room can't be closed");
     return at;
 }
 
@@ -185,7 +186,17 @@ int differs(const char *name, const struct job *job, const struct answer *expect
     return wrong(name, job, expected, AGAINST_END) + wrong(name, job, expected, AGAINST_START);
 }
 
-uint64_t roll(struct dice *dice)
+uint64_t jobs_asked(int argc, char **argv, uint64_t usual)
+{
+    char *end = "";
+    uint64_t jobs = argc > 1 ? strtoull(argv[1], &end, 10) : usual;
+
+    if (argc > 2 || *end || jobs == 0)
+        give_up("the one argument that may be given is a number of jobs");
+    return jobs;
+}
+
+static uint64_t roll(struct dice *dice)
 {
     uint64_t mixed = dice->state += 0x9e3779b97f4a7c15;
 
@@ -202,4 +213,11 @@ uint64_t draw(struct dice *dice, uint64_t below)
 int once_in(struct dice *dice, uint64_t times)
 {
     return draw(dice, times) == 0;
+}
+
+void put_in_order(uint64_t *loads, size_t n, uint64_t load)
+{
+    for (; n > 0 && loads[n - 1] > load; n--)
+        loads[n] = loads[n - 1];
+    loads[n] = load;
 }

@@ -44,15 +44,23 @@ void tell(const char *name, const struct job *job);
  */
 int differs(const char *name, const struct job *job, const struct answer *expected);
 
+/* Ends the program where the test itself can't go on. */
+_Noreturn void give_up(const char *why);
+
+/* The number of random jobs: what the one argument says, for slow checkers, or the usual number. */
+uint64_t jobs_asked(int argc, char **argv, uint64_t usual);
+
 /* Numbers that look random and are the same in every run: splitmix64. */
 struct dice {
     uint64_t state;
 };
 
-uint64_t roll(struct dice *dice);
 /* below: at least 1; the answer is one of 0 to below - 1 */
 uint64_t draw(struct dice *dice, uint64_t below);
 /* true once in so many times */
 int once_in(struct dice *dice, uint64_t times);
+
+/* Puts a load among the first n, which are sorted, so that the first n + 1 are. */
+void put_in_order(uint64_t *loads, size_t n, uint64_t load);
 
 #endif

@@ -14,7 +14,6 @@
 
 #include <inttypes.h>
 #include <stdio.h>
-#include <stdlib.h>
 #include <string.h>
 
 enum { USUAL_JOBS = 30000, LEAST_DAMAGED = 20000, LEAST_REFUSED = 200, MOST_DAMAGES = 4, CAUSES = 9 };
@@ -245,12 +244,8 @@ static void draw_loads(struct draft *d)
 
     for (size_t k = 0; k < d->job.n_loads; k++) {
         uint64_t load = pick(2) ? pick(top + 1) : pick(2) * (d->frequencies[pick(d->job.n_frequencies)] + pick(2));
-        size_t at = k;
 
-        load = load < top ? load : top;
-        for (; at > 0 && d->loads[at - 1] > load; at--)
-            d->loads[at] = d->loads[at - 1];
-        d->loads[at] = load;
+        put_in_order(d->loads, k, load < top ? load : top);
     }
 }
 
@@ -632,12 +627,8 @@ static unsigned report(int all)
 int main(int argc, char **argv)
 {
     static struct draft draft;
-    uint64_t jobs = argc > 1 ? strtoull(argv[1], NULL, 10) : USUAL_JOBS, passed = 0, failed;
+    uint64_t jobs = jobs_asked(argc, argv, USUAL_JOBS), passed = 0, failed;
 
-    if (jobs == 0) {
-        printf("the number of jobs has to be 1 or more\n");
-        return 2;
-    }
     printf("seed %" PRIu64 ", %" PRIu64 " jobs\n", dice.state, jobs);
     for (uint64_t number = 0; number < jobs; number++)
         passed += passes(&draft, number);

@@ -12,7 +12,6 @@
 
 #include <inttypes.h>
 #include <stdio.h>
-#include <stdlib.h>
 #include <string.h>
 
 enum { MOST_PLACES = 9, MOST_LOADS = MOST_PLACES + 3, MOST_ISLANDS = 8, MOST_LEVELS = 32, MOST_KINDS = 40 };
@@ -21,12 +20,6 @@ enum { SEED = 20180004, USUAL_JOBS = 24000, PW_PER_UW = 1000000, MOST_ISLAND_POW
 typedef unsigned __int128 wide;
 
 static const wide NONE = ~(wide)0; /* in place of a least total where nothing was listed */
-
-static _Noreturn void give_up(const char *why)
-{
-    printf("%s\n", why);
-    exit(2);
-}
 
 static wide plus(wide a, wide b)
 {
@@ -629,14 +622,8 @@ static void draw_loads(struct dice *dice, struct draft *draft, size_t places)
 
     for (size_t k = 0; k < different; k++)
         some[k] = draw_load(dice, &draft->table);
-    for (size_t k = 0; k < n; k++) {
-        uint64_t load = once_in(dice, zero_in) ? 0 : some[draw(dice, different)];
-        size_t at = k;
-
-        for (; at > 0 && draft->loads[at - 1] > load; at--)
-            draft->loads[at] = draft->loads[at - 1];
-        draft->loads[at] = load;
-    }
+    for (size_t k = 0; k < n; k++)
+        put_in_order(draft->loads, k, once_in(dice, zero_in) ? 0 : some[draw(dice, different)]);
     draft->job.n_loads = n;
 }
 
@@ -727,11 +714,8 @@ static void run_random_job(struct dice *dice, uint64_t number)
 int main(int argc, char **argv)
 {
     struct dice dice = {SEED};
-    char *end = "";
-    uint64_t jobs = argc > 1 ? strtoull(argv[1], &end, 10) : USUAL_JOBS;
+    uint64_t jobs = jobs_asked(argc, argv, USUAL_JOBS);
 
-    if (argc > 2 || *end || jobs == 0)
-        give_up("the one argument that may be given is a number of jobs");
     printf("seed %d, %" PRIu64 " jobs\n", SEED, jobs);
     run_cases();
     run_lengths(3, 3, 1680, 280, 12);

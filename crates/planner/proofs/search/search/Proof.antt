@@ -39,9 +39,9 @@ sized :
     → Sized (c .before .before .before .before .before .args .cores) (c .before .before .before .before .before .args .positions .now) (c .before .loop .bests)
 sized c = still-sized _ _ _ _ (c .before .loop .inv .1) (c .before .before .before .before .before .pre .0)
 
--- what the compiler is told of m changes nothing
-same : (m islands : ℕ) → m < islands → islands ≤ most-islands → m % most-islands ≡ m
-same m islands more few = mod-eq-of-lt (omega arith)
+-- the remainder that the code hands on is m itself
+remainder-same : (m islands : ℕ) → m < islands → islands ≤ most-islands → m % most-islands ≡ m
+remainder-same m islands more few = mod-eq-of-lt (omega arith)
 
 slice-aggregate-runs-of : tie.Need-slice-aggregate-runs-of Inv-loop μ-loop
 slice-aggregate-runs-of c = sym (c .before .before .before .loop .inv .2)
@@ -59,7 +59,7 @@ runs-of-requires c κs =
             inv .2,
             subst
                 (λ (n : ℕ). Bounded (run .args .cores) (run .args .positions .now) (c .before .before .before .loop .bests) n)
-                (sym (same (c .before .before .before .loop .m) (run .args .islands) (omega arith) (run .pre .1 .1 .1)))
+                (sym (remainder-same (c .before .before .before .loop .m) (run .args .islands) (omega arith) (run .pre .1 .1 .1)))
                 (inv .3),
           ),
         ),
@@ -80,7 +80,7 @@ loop-again c =
     let grown : Grown (run .args .cores) (run .args .own .0) (run .args .positions .now) (run .args .rates .now) (turn .bests) after (turn .m) =
     subst
     (λ (n : ℕ). Grown (run .args .cores) (run .args .own .0) (run .args .positions .now) (run .args .rates .now) (turn .bests) after n)
-    (same (turn .m) (run .args .islands) (omega arith) (run .pre .1 .1 .1))
+    (remainder-same (turn .m) (run .args .islands) (omega arith) (run .pre .1 .1 .1))
     (c .before .before .before .runs-of .ensures) in (
       omega arith,
       c .before .before .before .runs-of .kept .0 ∙ turn .inv .1,
