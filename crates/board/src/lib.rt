@@ -1,5 +1,7 @@
 // The board: how many islands, how many cores on each, and what an active island draws by itself. Its limits are named here, once.
 // Assumes nothing.
+#![tactic(auto)]
+
 ghost use Rattle.std.specs.Prelude.{◌≡◌, leb};
 ghost use Rattle.model.specs.Limits.{most_island_power};
 ghost use Rattle.board.specs.NewBoard.{BoardAnswer, LimitsAgree};
@@ -7,7 +9,7 @@ ghost use Rattle.board.specs.NewBoard.{BoardAnswer, LimitsAgree};
 use model::Refusal;
 use units::Microwatts;
 
-#[derive(Drop)]
+#[derive(Clone, Copy)]
 pub struct Board {
     pub islands: u64,
     pub cores: u64,
@@ -15,7 +17,7 @@ pub struct Board {
 }
 
 // A board, or the cause why there is none.
-#[derive(Drop)]
+#[derive(Clone, Copy)]
 pub enum NewBoard {
     Made(Board),
     Refused(Refusal),
@@ -33,13 +35,8 @@ impl Board {
     // A board of any two sizes: refused by 1 where one of them is 0 or above its limit. The island power is taken as it comes,
     // because the table is tried before it.
     pub fn new(islands: u64, cores: u64, power: Microwatts) -> NewBoard
-        ensures board_answer { BoardAnswer islands cores power result }
-        ensures* fact { do
-          i ← (⟦Board::ISLANDS⟧).entry
-          c ← (⟦Board::CORES⟧).entry
-          p ← (⟦Board::PLACES⟧).entry
-          h ← (⟦Board::ISLAND_POWER⟧).entry
-          ⌜ LimitsAgree i c p h ⌝ }
+        ensures answer { BoardAnswer islands cores power result }
+        ensures limits { LimitsAgree Board.ISLANDS Board.CORES Board.PLACES Board.ISLAND_POWER }
     {
         if islands < 1 {
             return NewBoard::Refused(Refusal::Sizes);

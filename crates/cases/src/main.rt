@@ -1,5 +1,7 @@
 // Plans the fourteen board cases and writes `case,answer,picowatts`, then a line for each. What it writes is held to the file stdout
 // beside src/.
+#![tactic(auto)]
+
 use board::Board;
 use libc::STDOUT_FILENO;
 use model::Planned;

@@ -1,5 +1,7 @@
 // The planner for callers in C: one function, which include/mizhgavul.h declares. A slice arrives as a pointer and a count, the answer
 // leaves as a number, and the total through a pointer. Assumes nothing.
+#![tactic(auto)]
+
 ghost use Rattle.model.specs.Answer.{Answered};
 ghost use Rattle.planner.specs.Given.{job_of};
 

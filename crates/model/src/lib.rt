@@ -1,12 +1,14 @@
 // The two enums in which an answer is given. What they mean stands in specs/: `number_of` and `total_of` give number and total
 // of every case. The one function here gives a cause's number to those who hand it on. Assumes nothing.
+#![tactic(auto)]
+
 ghost use Rattle.std.specs.Prelude.{◌≡◌};
 ghost use Rattle.model.specs.Refusals.{cause_number};
 
 use units::Picowatts;
 
 // The nine causes for which a job is refused, in the order in which they are tried; the first has number 1.
-#[derive(Drop)]
+#[derive(Clone, Copy)]
 pub enum Refusal {
     Sizes,
     Levels,
@@ -20,7 +22,7 @@ pub enum Refusal {
 }
 
 // What the planner says of a job.
-#[derive(Drop)]
+#[derive(Clone, Copy)]
 pub enum Planned {
     Total(Picowatts),
     Refused(Refusal),

@@ -21,7 +21,7 @@ pub(crate) const SQUARE: usize = Board::PLACES * Board::PLACES;
 pub(crate) const MOST_ISLANDS: usize = Board::ISLANDS as usize;
 
 // A gap below a member: the islands in it, and what it costs with all below it.
-#[derive(Drop)]
+#[derive(Clone, Copy)]
 pub(crate) struct Gap {
     pub(crate) islands: usize,
     pub(crate) cost: Picowatts,

@@ -13,7 +13,7 @@ use units::Femtojoules;
 
 // A run: its first position, its islands, and the number of the island before its lowest. Below a member, the runs in the gaps count
 // as one: their islands are numbered from the lowest gap up.
-#[derive(Drop)]
+#[derive(Clone, Copy)]
 pub(crate) struct Run {
     pub(crate) start: usize,
     pub(crate) islands: usize,

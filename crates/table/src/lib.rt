@@ -1,6 +1,8 @@
 // The level table: whether it is refused, and which level a load gets.
 // The two lists are lent as the caller has them; a value is wrapped in its unit where it is multiplied or handed on, and range and order
 // are tested on the bare numbers. `judge` and `level` ask nothing; what they call asks for an index within the lists.
+#![tactic(auto)]
+
 ghost use Rattle.std.specs.Prelude.{◌≡◌, ◌+◌, ◌*◌, ◌<◌, ◌^◌, leb, ltb, length, get_or};
 ghost use Rattle.model.specs.Tells.{Tells};
 ghost use Rattle.model.specs.Table.{WellShaped, Between, Rising, WellRanged, NotFalling};
@@ -21,7 +23,7 @@ const LEAST_POWER: u32 = 1;
 const MOST_POWER: u32 = 10000000;
 
 // What judging a table says of it; the planner's refusals say the same of a job.
-#[derive(Drop)]
+#[derive(Clone, Copy)]
 pub enum Judged {
     Sound,
     Refused(Refusal),

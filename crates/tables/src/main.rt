@@ -1,6 +1,8 @@
 // Judges a row of level tables, good and damaged, and writes the answer to each as `table,answer`; then the level of some loads in
 // table T as `load,level`, counted from 0, with 3 where no level is fast enough. What it writes is held to the file stdout beside
 // src/. A name says what is wrong; `at` is the last value that passes, `past` the first that does not.
+#![tactic(auto)]
+
 use libc::STDOUT_FILENO;
 use table::Judged;
 use units::Kilohertz;

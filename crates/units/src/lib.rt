@@ -1,21 +1,23 @@
 // The four quantities of a job as types of their own, so that a frequency or a load can't stand where a power or a cost is
 // expected, and the conversions between them that no input breaks. Assumes nothing.
+#![tactic(auto)]
+
 ghost use Rattle.std.specs.Prelude.{◌≡◌, ◌*◌, leb};
 
 // A frequency or a load: kilocycles per second. 64 bits wide, because loads arrive so; a frequency is widened, a load never cut.
-#[derive(Drop)]
+#[derive(Clone, Copy)]
 pub struct Kilohertz(pub u64);
 
 // A power as the caller gives it: of one core at a level, or of an active island by itself.
-#[derive(Drop)]
+#[derive(Clone, Copy)]
 pub struct Microwatts(pub u32);
 
 // The cost of a level: femtojoules per cycle.
-#[derive(Drop)]
+#[derive(Clone, Copy)]
 pub struct Femtojoules(pub u64);
 
 // A power as the planner reports it. One kilohertz at one femtojoule per cycle is one picowatt.
-#[derive(Drop)]
+#[derive(Clone, Copy)]
 pub struct Picowatts(pub u64);
 
 impl Kilohertz {
