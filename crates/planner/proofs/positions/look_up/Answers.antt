@@ -1,0 +1,24 @@
+-- `look_up`: the level of one position more is stored, and it fits a byte. Assumes nothing.
+use Rattle.std.proofs.Common.{arith, length-set, get_or}
+use Rattle.planner.proofs.Charges.{lowest_most}
+use Rattle.planner.proofs.Loops.{Stored, stored_none, stored_more}
+use Rattle.planner.proofs.positions.look_up.Goals as goal
+
+pub loop-k-init : goal.loop-k-init
+loop-k-init c = (omega arith, c.requires.steps_len, stored_none _ _)
+
+pub overflow_cast-steps : goal.overflow_cast-steps
+overflow_cast-steps c =
+    let load = get_or c.args.positions.now c.loop-k.k 0 in
+    record { fits = omega (arith, c.level.ensures, lowest_most c.args.frequencies.now load) }
+
+pub loop-k-preserved : goal.loop-k-preserved
+loop-k-preserved c = (
+  omega arith,
+  simp length-set c.loop-k.invariant.1,
+  stored_more _ _ _ _ c.loop-k.invariant.2 c.level.ensures (omega arith),
+)
+
+pub returns : goal.returns
+unfolding Stored
+returns c = λ k h. c.loop-k.invariant.2 k (omega arith)
