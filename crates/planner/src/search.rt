@@ -28,6 +28,7 @@ pub(crate) struct Gap {
 }
 
 // The place of a run of some islands in the table of bests: by its first and its last position.
+#[tactic(auto, unfolding(crate::specs::Square::place))]
 fn place(cores: usize, start: usize, islands: usize) -> usize
     requires { (0 < islands * cores) × (start + islands * cores ≤ most_places) }
     ensures { result ≡ place cores start islands }
@@ -36,6 +37,7 @@ fn place(cores: usize, start: usize, islands: usize) -> usize
 }
 
 // What the table has for a run. A run of no islands costs nothing and has no place.
+#[tactic(auto, using(crate::proofs::Square::place_within), unfolding(crate::specs::Square::best_at))]
 pub(crate) fn best_at(bests: &[u64], cores: usize, start: usize, islands: usize) -> Picowatts
     requires bests_len { length bests.now ≡ square_size }
     requires cores_nonzero { (0 < cores) × (start + islands * cores ≤ most_places) }
@@ -65,6 +67,7 @@ fn with_member(positions: &[u64], at: usize, rate: Femtojoules, rest: Picowatts)
 }
 
 // What the gap below the highest of r + 2 members costs with all below it, if g of the m islands stand in the gap.
+#[tactic(auto, unfolding(optimum::specs::Best::gap_cost, crate::specs::Rows::row_at))]
 fn gap_cost(
     bests: &[u64],
     rows: &[u64],
@@ -86,6 +89,7 @@ fn gap_cost(
 }
 
 // The smallest gap that costs least.
+#[tactic(auto, unfolding(optimum::specs::Best::first, optimum::specs::Best::least))]
 pub(crate) fn least_gap(
     bests: &[u64],
     rows: &[u64],
@@ -197,6 +201,7 @@ pub(crate) fn fill_rows(
 }
 
 // What an island draws by itself: nothing where its heaviest load is 0.
+#[tactic(auto, unfolding(optimum::specs::Best::itself))]
 fn by_itself(own: Picowatts, top: Kilohertz) -> Picowatts
     ensures { result.0 ≡ itself own.0 top.0 }
 {
@@ -238,6 +243,7 @@ fn run_cost(
 }
 
 // All runs of m + 1 islands, added to a table that has the shorter ones.
+#[tactic(auto, using(crate::proofs::Square::place_within))]
 fn runs_of(
     bests: &mut [u64],
     positions: &[u64],
