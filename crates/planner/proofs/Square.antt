@@ -6,7 +6,7 @@
 --     best_stored     a figure that is stored for a run is what the table then has for it
 --     best_others     and it has for every other run what it had
 -- Nothing here but `place_within` and `place_one` looks into `place`. Assumes nothing.
-use Prim.Native.Nat.{ℕ, zero, suc, ◌+◌, ◌-◌, ◌*◌, ◌≤◌, ◌<◌}
+use Prim.Native.Nat.{ℕ, zero, suc, ◌+◌, ◌*◌, ◌≤◌, ◌<◌}
 use mathlib.Core.Path.{◌≡◌, refl, sym, subst}
 use mathlib.Core.List.{List}
 use native.Mathlib.Nat.{eq_of_mul-eq-mul_right, mul-pos, not-suc-le-zero}

@@ -1,5 +1,5 @@
 -- `copy`: one byte more is one more of the list in front of the other, and at the end it is the whole. Assumes nothing.
-use Rattle.std.proofs.Common.{refl, arith, rules, length-set}
+use Rattle.std.proofs.Common.{refl, arith, length-set}
 use Rattle.planner.proofs.Loops.{pasted_none, pasted_more, pasted_front}
 use Rattle.planner.proofs.bytes.copy.Goals as goal
 
