@@ -1,6 +1,6 @@
 #!/bin/sh
-# Builds the library and the two baselines, says with what, and runs bench.c: a table of times. Where the code runs under the toolchain's
-# emulator, a table of executed instructions follows.
+# Builds the library and the two baselines, says with what, and runs bench.c: a table of times. Where valgrind can be had, a table of
+# executed instructions follows, which are the same in every run.
 set -u
 cd "$(dirname "$0")/.." || exit 1
 . tests/tools.sh
@@ -10,40 +10,43 @@ room=$(mktemp -d) || exit 1
 trap 'rm -rf "$room"' EXIT
 
 make_library || exit 1
-library=target/staticlib/libmizhgavul.a
 
-# Two things are slow in the emulator that are quick in a processor. It works off `rep stosb` byte by byte, so it is told to be a processor
-# on which the C library clears memory by other means. And it looks up where a jump to another page leads, so every function begins a page.
-emulator=$(kit)/bin/qemu-x86_64
-if [ -x "$emulator" ]; then
-    QEMU_CPU=qemu64
-    export QEMU_CPU
-    flags="-O3 -falign-functions=4096"
-    runs="under the emulator $("$emulator" -version | sed -n '1s/ (.*//p') as a $QEMU_CPU"
-    ${cc%gcc*}objcopy --set-section-alignment '.text.*=4096' "$library" "$room/library.a" || exit 1
-    library=$room/library.a
-else
-    emulator=
-    flags="-O3 -march=native"
-    runs="natively, on $(sed -n 's/^model name[^:]*: *//p' /proc/cpuinfo | sed -n 1p)"
+# linked FILE FLAG..: the benchmark, with its own code and the baselines compiled by these flags
+linked() {
+    program=$1
+    shift
+    for file in plain algorithm3 bench; do
+        $cc -std=c11 -Wall -Wextra -Werror "$@" -Iinclude -c "bench/$file.c" -o "$room/$file.o" || exit 1
+    done
+    $cc "$room/plain.o" "$room/algorithm3.o" "$room/bench.o" "$library" -o "$program" || exit 1
+}
+
+flags="-O3 -march=native"
+linked "$room/bench" $flags
+say "machine: $(uname -m), $(sed -n 's/^model name[^:]*: *//p' /proc/cpuinfo | sed -n 1p)"
+say "planner: $(rt version), rt lib"
+say "baselines: $($cc --version | sed -n 1p), $flags"
+"$room/bench" || exit 1
+
+if ! { command -v valgrind || add valgrind; } >/dev/null 2>&1; then
+    say "valgrind can't be had on this machine, so no instructions are counted"
+    exit 0
 fi
 
-for file in plain algorithm3 bench; do
-    $cc -std=c11 -Wall -Wextra -Werror $flags -Iinclude -c "bench/$file.c" -o "$room/$file.o" || exit 1
-done
-$cc "$room/plain.o" "$room/algorithm3.o" "$room/bench.o" "$library" -o "$room/bench" || exit 1
+# Two things are otherwise than where times are taken. valgrind may not know the newest instructions of the processor, so the baselines keep
+# to those of every x86-64. And it counts `rep stosb` once for each byte, so the C library is told to clear memory by other means.
+flags="-O3"
+linked "$room/counted" $flags
+tunables=glibc.cpu.x86_rep_stosb_threshold=1000000000
+counter="valgrind --tool=cachegrind --cache-sim=no --cachegrind-out-file=/dev/null"
 
-say "machine: $(uname -m); x86-64 code runs $runs"
-say "planner: $(rt version), rt staticlib mizhgavul"
-say "baselines: $($cc --version | sed -n 1p), $flags"
-emulate "$room/bench" || exit 1
-[ -n "$emulator" ] || exit 0
+# executed ROW PLANNER TIMES: how many instructions the whole program executes
+executed() {
+    GLIBC_TUNABLES=$tunables $counter "$room/counted" "$@" 2>&1 | sed -n 's/^.* I *refs: *//p' | tr -d ,
+}
 
-# executed ROW PLANNER TIMES: how many instructions the whole program executes; the emulator writes a line for each
-executed() { emulate -one-insn-per-tb -d exec,nochain "$room/bench" "$@" 2>&1 | grep -c '^Trace '; }
-
-# a_plan ROW PLANNER: the instructions of one plan
-a_plan() { echo $(($(executed "$1" "$2" 1) - $(executed "$1" "$2" 0))); }
+# a_plan ROW PLANNER: the instructions of one plan more, when the program's functions have been found
+a_plan() { echo $(($(executed "$1" "$2" 2) - $(executed "$1" "$2" 1))); }
 
 # over A B: A over B, rounded to two decimals
 over() {
@@ -61,14 +64,15 @@ goal() {
 
 form='%-34s %12s %12s %14s %14s %20s\n'
 echo
+say "counted by $(valgrind --version); baselines: $flags"
 printf "$form" "instructions a plan" planner "plain C" "Algorithm 3" planner/plain "Algorithm 3/planner"
-emulate "$room/bench" names >"$room/names" || exit 1
+"$room/counted" names >"$room/names" || exit 1
 row=0 above=0
 while read -r name; do
     row=$((row + 1))
     planner=$(a_plan $row planner) plain=$(a_plan $row plain) paper=$(a_plan $row algorithm3)
     if [ "$planner" -le 0 ] || [ "$plain" -le 0 ]; then
-        say "this emulator counts no instructions"
+        say "this valgrind counts no instructions"
         exit 1
     fi
     printf "$form" "$name" "$planner" "$plain" "$paper" "$(over "$planner" "$plain")" "$(over "$paper" "$planner")"

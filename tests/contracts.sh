@@ -1,6 +1,7 @@
 #!/bin/sh
-# Each `pub fn` of the crates, exported to C or not: its head, from the name to the brace of its body, has an `ensures` and no `requires`.
-# `pub(crate)` functions are the crate's own affair. The check is first tried on heads that it has to find fault with.
+# Each `pub fn` of the crates, exported to C or not: its head, from the name to the brace of its body, has an `ensures` and no `requires`,
+# with a name, a star or neither. `pub(crate)` functions are the crate's own affair. The check is first tried on heads that it has to find
+# fault with.
 set -u
 cd "$(dirname "$0")/.." || exit 1
 . tests/tools.sh
@@ -24,8 +25,8 @@ heads() {
             if (/\{/) judged(1)
             next
         }
-        inside && /^[ \t]*ensures([ \t]|$)/ { stated = 1; next }
-        inside && /^[ \t]*requires([ \t]|$)/ { asked = 1; next }
+        inside && /^[ \t]*ensures[*]?([ \t{]|$)/ { stated = 1; next }
+        inside && /^[ \t]*requires[*]?([ \t{]|$)/ { asked = 1; next }
         inside && (/^[ \t]*\)[^{]*\{/ || /^[ \t]*\{[ \t]*$/) { judged(1) }
         END { if (inside) judged(0); print good + 0 " passed, " bad + 0 " failed"; exit (bad > 0) }' "$@"
 }
@@ -34,7 +35,20 @@ faults=$(mktemp) || exit 1
 trap 'rm -f "$faults"' EXIT
 cat >"$faults" <<'HEADS'
 pub fn good(x: u64) -> u64
-    ensures { λ r. ⌜ r ≡ x ⌝ }
+    ensures { result ≡ x }
+{
+    x
+}
+pub fn good_by_names(
+    x: u64,
+) -> u64
+    ensures low { x ≤ result }
+    ensures high { result ≤ x }
+{
+    x
+}
+pub fn good_of_memory(x: &u64) -> &u64
+    ensures* { sem 𝓛 (Lent x.entry result) }
 {
     x
 }
@@ -47,7 +61,7 @@ pub fn long_and_bare(
 ) -> u64 {
     x
 }
-#[no_mangle]
+#[unsafe(no_mangle)]
 pub extern "C" fn exported_and_bare(x: u64) -> u64 {
     x
 }
@@ -55,15 +69,28 @@ pub const fn constant_and_bare(x: u64) -> u64 {
     x
 }
 pub fn asks(x: u64) -> u64
-    requires { ⌜ x < 8 ⌝ }
-    ensures { λ r. ⌜ r ≡ x ⌝ }
+    requires { x < 8 }
+    ensures { result ≡ x }
 {
     x
 }
+pub fn asks_by_name(x: u64) -> u64
+    requires small { x < 8 }
+    requires even { x % 2 ≡ 0 }
+    ensures answer { result ≡ x }
+{
+    x
+}
+pub fn asks_of_memory(x: &u64) -> u64
+    requires* { sem 𝓛 (Lent x.entry x.now) }
+    ensures { result ≡ x.now }
+{
+    *x
+}
 HEADS
-if [ "$(heads "$faults" | tail -n 1)" != "1 passed, 6 failed" ]; then
-    echo "the check itself is at fault: of seven heads it has to pass one"
+if [ "$(heads "$faults" | tail -n 1)" != "3 passed, 8 failed" ]; then
+    echo "the check itself is at fault: of eleven heads it has to pass three"
     heads "$faults"
     exit 1
 fi
-heads $(find crates -path '*/src/*' -name '*.rt' | sort)
+heads $(find crates/*/src -name '*.rt' | sort)

@@ -1,6 +1,7 @@
 #!/bin/sh
-# Each edit of mixed-units/ puts a quantity where another is expected, in a copy of the crates. The compiler has to refuse the types;
-# a must-fail edit of a crate can't show this, because it never reaches the prover.
+# Each edit of mixed-units/ puts a quantity where another is expected, in a copy of the crates. The compiler has to refuse the types in
+# the file that was edited; a must-fail edit of a crate can't show this, because it never reaches the prover. The file is read with the
+# program `cases`, which stands on every crate that these edits name.
 set -u
 cd "$(dirname "$0")/.." || exit 1
 . tests/tools.sh
@@ -9,9 +10,8 @@ need awk mawk
 passed=0 failed=0
 copy=$(mktemp -d) || exit 1
 trap 'rm -rf "$copy"' EXIT
-cp -R crates crates.txt "$copy/" || exit 1
-# what is proved already need not be proved again in the copy
-[ ! -d target ] || cp -R target "$copy/"
+# out/ has what was proved; to read types nothing of it is needed
+tar -cf - --exclude='crates/*/out' crates crates.txt | tar -xf - -C "$copy" || exit 1
 
 for edit in tests/mixed-units/*.edit; do
     crate=$(sed -n 's/^crate: //p' "$edit")
@@ -22,9 +22,9 @@ for edit in tests/mixed-units/*.edit; do
         { print }
         END { exit hits != 1 }' "$file" >"$copy/$file"
     found=$?
-    said=$(cd "$copy" && rt mir "$crate" 2>&1)
+    said=$(cd "$copy/crates/cases" && rt try 2>&1 | grep -F "/$file:" | grep -F 'error[mismatched-types]')
     cp "$file" "$copy/$file"
-    if [ "$found" -eq 0 ] && printf '%s\n' "$said" | grep -q 'error\[mismatched-types\]'; then
+    if [ "$found" -eq 0 ] && [ -n "$said" ]; then
         passed=$((passed + 1))
         echo "$(basename "$edit" .edit): $(printf '%s\n' "$said" | sed -n 's/.*error\[mismatched-types\]: //p' | head -n 1)"
     else

@@ -5,11 +5,11 @@ cd "$(dirname "$0")/.." || exit 1
 . tests/tools.sh
 need_rt
 
-say "proving" $(sed -n 's/^\([a-z_]*\):.*/\1/p' crates.txt)
-say "the planner takes about a minute, the others seconds; what is unchanged is not proved again"
+say "proving" $(crate_names)
+say "the planner takes minutes, the others less; what is unchanged is not proved again"
 log=$(mktemp) || exit 1
 trap 'rm -f "$log"' EXIT
-{ rt check 2>&1; echo "exit status $?"; } | tee "$log" | sed -n '/^rt: /p'
+{ rt all check 2>&1; echo "exit status $?"; } | tee "$log" | sed -n '/^== summary$/d; s/^== /checked /p; / crates ok$/p'
 if ! grep -q '^exit status 0$' "$log"; then
     say "not proved; what the check said:"
     cat "$log"
@@ -18,5 +18,8 @@ fi
 for program in crates/*/src/main.rt; do
     name=${program#crates/} name=${name%%/*}
     say "running $name"
-    run_program "$name" || exit 1
+    if ! (cd "crates/$name" && rt run 2>"$log"); then
+        cat "$log"
+        exit 1
+    fi
 done

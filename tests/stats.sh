@@ -12,16 +12,31 @@ trap 'rm -f "$log" "$rows"' EXIT
 # lines FOLDER: its lines that are neither empty nor a comment alone; 0 where the crate has no such folder
 lines() { find "$1" -type f -exec cat {} + 2>/dev/null | grep -cvE '^[[:space:]]*(//.*|--.*)?$'; }
 
-functions() { grep -c "^fn $1::.*: proved\$" "$log"; }
+# functions CRATE, seconds CRATE: what the log has of a crate between its head and the next: how many functions were proved, and how long
+# after the head before it this one was written, which is when the crate was done
+functions() {
+    sed -n "/^[0-9]* == $1\$/,/^[0-9]* == /s/^[0-9]* logic=proved functions=\([0-9]*\) .*/\1/p" "$log"
+}
 
-seconds() { sed -n "s/^rt: $1 proved (\([0-9]*\) s)\$/\1/p" "$log"; }
+seconds() {
+    awk -v head="== $1" '{ at = $1; sub(/^[0-9]* /, "") }
+        NR == 1 { before = at }
+        $0 == head { print at - before }
+        /^== / { before = at }' "$log"
+}
 
 edits() { find "crates/$1/must-fail" -name '*.edit' 2>/dev/null | wc -l; }
 
-crates=$(sed -n 's/^\([a-z_]*\):.*/\1/p' crates.txt)
+# timed COMMAND..: what the command writes, each line with the second that it came in, and its exit status at the end
+timed() {
+    { echo begun; "$@" 2>&1; echo "exit status $?"; } | while IFS= read -r line; do echo "$(date +%s) $line"; done
+}
+
+crates=$(crate_names)
 say "proving" $crates "from nothing, one after another"
-if ! RT_JOBS=1 rt prove >"$log" 2>&1; then
-    cat "$log"
+timed rt all verdict --jobs 1 >"$log"
+if ! grep -q '^[0-9]* exit status 0$' "$log"; then
+    sed 's/^[0-9]* //' "$log"
     say "not everything is proved, so nothing is written"
     exit 1
 fi
@@ -41,7 +56,7 @@ fi
     echo
     echo "Written by \`make stats\`: $(rt version), on $(uname -m), crates checked one after another."
     echo "Lines are those that are neither empty nor a comment alone; contracts stand in the code, and count as code. Seconds are those of"
-    echo "one check from nothing, proofs and code together. Edits are the must-fail edits, each of which costs the gate one more check."
+    echo "one check from nothing, by one process. Edits are the must-fail edits, each of which costs the gate one more check."
     echo
     echo "| crate | code | specs | proofs | functions | check, s | edits |"
     echo "|---|---:|---:|---:|---:|---:|---:|"

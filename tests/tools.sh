@@ -21,18 +21,13 @@ need_rt() {
     exit 1
 }
 
-# need_cc: leaves in cc the words that compile and link C for x86-64, which is what rt builds. On another machine they link the C library
-# in, because the emulator is given no other.
+# need_cc: leaves in cc the word that compiles and links C
 need_cc() {
-    if [ "$(uname -m)" = x86_64 ]; then
-        cc=gcc packages="gcc libc6-dev"
-    else
-        cc="x86_64-linux-gnu-gcc -static" packages="gcc-x86-64-linux-gnu libc6-dev-amd64-cross"
-    fi
+    cc=gcc
     links_c && return 0
-    say "installing $packages for the command $cc"
-    add $packages && links_c && return 0
-    say "$cc links no program, and Debian's packages $packages could not be installed"
+    say "installing gcc and libc6-dev for the command $cc"
+    add gcc libc6-dev && links_c && return 0
+    say "$cc links no program, and Debian's packages gcc and libc6-dev could not be installed"
     exit 1
 }
 
@@ -44,9 +39,16 @@ links_c() {
     return $linked
 }
 
-# make_library: writes the library for callers in C; where that fails, shows what the toolchain said
+library=target/staticlib/libmizhgavul.a
+
+# make_library: proves what the library for callers in C stands on, and writes it; where that fails, shows what the toolchain said and
+# leaves no library of other code
 make_library() {
-    said=$(rt staticlib mizhgavul 2>&1) && return 0
+    rm -f "$library"
+    if said=$(cd crates/mizhgavul && rt lib 2>&1); then
+        mkdir -p "${library%/*}" && cp crates/mizhgavul/out/libmizhgavul.a "$library"
+        return
+    fi
     printf '%s\n' "$said"
     return 1
 }
@@ -55,17 +57,8 @@ make_library() {
 built() {
     file=$1
     shift
-    $cc -std=c11 -Wall -Wextra -Werror -Iinclude "$@" target/staticlib/libmizhgavul.a -o "$file"
+    $cc -std=c11 -Wall -Wextra -Werror -Iinclude "$@" "$library" -o "$file"
 }
 
-# emulate FILE WORD..: runs x86-64 code; where the machine is another one, the toolchain has an emulator
-emulate() {
-    emulator=$(kit)/bin/qemu-x86_64
-    [ -x "$emulator" ] || emulator=
-    ${emulator:+"$emulator"} "$@"
-}
-
-kit() { echo "$(dirname "$(dirname "$(readlink -f "$(command -v rt)")")")/on/$(uname -m)/toolchain"; }
-
-# run_program NAME: runs a program that rt has built, with the loader and the C library that the toolchain has for it
-run_program() { emulate "$(kit)/lib/ld-linux-x86-64.so.2" --library-path "$(kit)/lib" "target/bin/$1"; }
+# crate_names: the crates, from the lowest up
+crate_names() { sed -n 's/^\([a-z0-9_]*\)[^:#]*:.*/\1/p' crates.txt; }
