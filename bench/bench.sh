@@ -24,7 +24,7 @@ linked() {
 flags="-O3 -march=native"
 linked "$room/bench" $flags
 say "machine: $(uname -m), $(sed -n 's/^model name[^:]*: *//p' /proc/cpuinfo | sed -n 1p)"
-say "planner: $(rt version), rt lib"
+say "planner: $(rt version), rt lib --cpu x86-64"
 say "baselines: $($cc --version | sed -n 1p), $flags"
 "$room/bench" || exit 1
 

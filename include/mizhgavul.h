@@ -13,7 +13,7 @@
  * Units    frequencies and loads in kilohertz (kilocycles per second), powers in microwatts, the total in picowatts;
  *          1 microwatt is 1000000 picowatts
  *
- * Link     libmizhgavul.a, which `rt staticlib mizhgavul` writes to target/staticlib: code for Linux on x86-64 that needs no library
+ * Link     libmizhgavul.a, which `make library` writes to target/staticlib: code for Linux on x86-64 that needs no library
  *          besides C's own, as in
  *              cc -Iinclude program.c target/staticlib/libmizhgavul.a
  *

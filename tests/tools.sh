@@ -41,11 +41,11 @@ links_c() {
 
 library=target/staticlib/libmizhgavul.a
 
-# make_library: proves what the library for callers in C stands on, and writes it; where that fails, shows what the toolchain said and
-# leaves no library of other code
+# make_library: proves what the library for callers in C stands on, and writes it for every x86-64 processor, since it can't check which
+# one it runs on; where that fails, shows what the toolchain said and leaves no library of other code
 make_library() {
     rm -f "$library"
-    if said=$(cd crates/mizhgavul && rt lib 2>&1); then
+    if said=$(cd crates/mizhgavul && rt lib --cpu x86-64 2>&1); then
         mkdir -p "${library%/*}" && cp crates/mizhgavul/out/libmizhgavul.a "$library"
         return
     fi
