@@ -28,7 +28,8 @@ use Rattle.optimum.proofs.Shapes.{run_length, gaps_length, gaps_end, gaps_top, r
 use Rattle.optimum.proofs.RunUncrossed.{run_uncrossed}
 use Rattle.optimum.proofs.UncrossedRun.{uncrossed_run}
 use Rattle.optimum.proofs.GapParts.{gap_lowest, gap_member}
-use Rattle.optimum.proofs.FullBound.{power_front, best_bound}
+use Rattle.optimum.proofs.FullBound.{power_front}
+use Rattle.optimum.proofs.RunBound.{best_bound}
 use Rattle.optimum.proofs.RunPower.{charged, power_top}
 use Rattle.optimum.proofs.RunSplit.{gaps_heaviest}
 use Rattle.optimum.proofs.ChosenRun.{chosen_within, gaps_lowest, gaps_member, gaps_run, plan_none, plan_is, run_chosen}

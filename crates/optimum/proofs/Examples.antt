@@ -6,7 +6,6 @@
 --     paper_uncrossed     so it has no crossing
 --     paper_one           no other plan without a crossing has these highest positions
 --     crossing_plan       two islands that take turns cross
---     crossing_refused    so their plan is not among those without a crossing
 --     tied_uncrossed      "(a tie)", case 6: two plans without a crossing
 --     tied_totals         with the same total
 --     tied_members        that differ in the second member of the top island
@@ -25,7 +24,7 @@ use Rattle.model.specs.Job.{Job}
 use Rattle.model.specs.Level.{lowest, level_of, rounded_up, cost, charge}
 use Rattle.model.specs.Power.{each, held, heaviest, sum, active, drawn, power, own}
 use Rattle.model.specs.Plan.{padding, padded, members, highest}
-use Rattle.model.specs.Crossing.{Cross, NoCrossing}
+use Rattle.model.specs.Crossing.{Cross}
 use Rattle.model.specs.TieRule.{Uncrossed, Least, Taken}
 use Rattle.model.specs.Cases.{table_t, four, case_6}
 use Rattle.optimum.specs.Best.{itself, first, least, load_at, top_load, fill, gap_cost, best_within, best}
@@ -114,9 +113,6 @@ crossing_plan =
       c_one = refl;
       d_other = refl;
     }
-
-pub crossing_refused : ¬ (NoCrossing (1 ∷ 2 ∷ 1 ∷ 2 ∷ []))
-crossing_refused free = free 1 2 (λ e. omega arith) crossing_plan
 
 -- the two plans of case 6, whose loads at all positions are 0 0 100000 400000
 abbrev ordered : List ℕ

@@ -1,47 +1,22 @@
--- The lower bound over the model's full plans, crossing ones too.
+-- The lower bound over fair assignments of a run's loads, crossing ones too.
 --     power_front     loads behind the plan's positions draw nothing
 --     fair_bound      no fair assignment of a run's loads draws less than the run's best
---     best_bound      no full plan of a run does
 -- Assumes nothing.
 use Prim.Native.Nat.{ℕ, ◌+◌, ◌*◌, ◌≤◌, ◌<◌}
 use mathlib.Core.Path.{◌≡◌, refl, sym, ap, ◌∙◌}
-use mathlib.Core.Logic.{inl, inr}
 use mathlib.Core.List.{List, [], ◌++◌, append-nil}
-use native.Mathlib.Nat.{one-mul, zero-mul, le_trans, le_of_eq}
 use native.Mathlib.Omega.{arith}
 use lib.ListN.{length}
-use Rattle.model.specs.Plan.{count, Full}
+use Rattle.model.specs.Plan.{count}
 use Rattle.model.specs.Power.{held, heaviest, sum, drawn, power}
 use Rattle.optimum.specs.Loads.{AtMost, Sorted, NeverFalls, At}
 use Rattle.optimum.specs.Best.{itself, best}
 use Rattle.optimum.specs.Fair.{Fair, over}
 use Rattle.optimum.proofs.Held.{held_append, drawn_is}
-use Rattle.optimum.proofs.Spread.{islands, weighed, each_over, islands_once}
-use Rattle.optimum.proofs.Spread.{islands_length, over_same, over_sum, spread}
-use Rattle.optimum.proofs.NamedPlans.{in_or_out, islands_outside, named_outside, full_length, power_same}
+use Rattle.optimum.proofs.Spread.{weighed, over_same, over_sum, spread}
+use Rattle.optimum.proofs.NamedPlans.{power_same}
 use Rattle.optimum.proofs.BestSplit.{best_below}
 use Rattle.optimum.proofs.LowerBound.{fair_full, fair_named, lower_bound}
-
-full_fair : (Q base v : ℕ) (plan : List ℕ) → Full Q base v plan → Fair Q (islands base v) plan
-full_fair Q base v plan full = record { once = once; filled = filled }
-  where
-    once : (z : ℕ) → count z (islands base v) ≤ 1
-    once z =
-        elim (in_or_out base v z) [
-          | inl within ↦ le_of_eq (islands_once base v z within.0 within.1)
-          | inr out ↦ omega (arith, islands_outside base v z out)
-        ]
-
-    filled : (z : ℕ) → count z plan ≡ count z (islands base v) * Q
-    filled z =
-        elim (in_or_out base v z) [
-          | inl within ↦
-              full.filled z within.0 within.1
-              ∙ sym (ap (λ (n : ℕ). n * Q) (islands_once base v z within.0 within.1) ∙ one-mul Q)
-          | inr out ↦
-              named_outside base v plan full.named z out
-              ∙ sym (ap (λ (n : ℕ). n * Q) (islands_outside base v z out) ∙ zero-mul Q)
-        ]
 
 drawn_spread :
     (own : ℕ) (rate : ℕ → ℕ) (zs plan us : List ℕ)
@@ -88,18 +63,3 @@ module _ (Q own : ℕ) (rate : ℕ → ℕ) (ws : List ℕ) (limit : ℕ) (pos :
         found.2,
         drawn_spread own rate zs plan us (λ z some. (fair_full Q zs plan fair z (fair_named Q zs plan fair z some)).0),
       )
-
-  pub best_bound :
-      (i base v : ℕ) (plan us : List ℕ)
-      → Full Q base v plan
-      → length us ≡ v * Q
-      → Sorted us
-      → AtMost limit us
-      → At ws i us
-      → best Q own rate ws i v ≤ power own rate base v plan us
-  unfolding power
-  best_bound i base v plan us full len sorted most at =
-      le_trans
-      (fair_bound i v (islands base v) plan us (islands_length base v) (full_fair Q base v plan full)
-      (full_length Q base v plan full ∙ sym len) sorted most at)
-      (le_of_eq (sym (each_over (λ z. drawn own rate (held z plan us)) base v)))

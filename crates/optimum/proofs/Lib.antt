@@ -16,6 +16,7 @@ pub mod BestSplit
 pub mod Gather
 pub mod LowerBound
 pub mod FullBound
+pub mod RunBound
 -- run-shaped plans are the plans without a crossing
 pub mod Shapes
 pub mod Members
@@ -56,3 +57,4 @@ pub mod LevelsRise
 pub mod Returned
 pub mod Promises
 pub mod Examples
+pub mod Crossed
