@@ -1,5 +1,5 @@
 -- `level` returns the lowest level that is fast enough: at the first that is, or past the last. Assumes nothing.
-use Rattle.std.proofs.Common.{◌≡◌, ◌∙◌, sym, arith}
+use Rattle.std.proofs.Common.{◌∙◌, sym, arith}
 use borrow.Author.Tests.{leb-true}
 use Rattle.model.proofs.Levels.{lowest_is}
 use Rattle.table.proofs.level.Goals as goal
