@@ -40,9 +40,9 @@ linked "$room/counted" $flags
 tunables=glibc.cpu.x86_rep_stosb_threshold=1000000000
 counter="valgrind --tool=cachegrind --cache-sim=no --cachegrind-out-file=/dev/null"
 
-# executed ROW PLANNER TIMES: how many instructions the whole program executes
+# executed ROW PLANNER TIMES: how many instructions the whole program executes; 0 where none are counted
 executed() {
-    GLIBC_TUNABLES=$tunables $counter "$room/counted" "$@" 2>&1 | sed -n 's/^.* I *refs: *//p' | tr -d ,
+    GLIBC_TUNABLES=$tunables $counter "$room/counted" "$@" 2>&1 | sed -n 's/^.* I *refs: *//p' | tr -d , | grep '[0-9]' || echo 0
 }
 
 # a_plan ROW PLANNER: the instructions of one plan more, when the program's functions have been found
