@@ -4,7 +4,7 @@
 --     all_below, all_pairs  what is decided of every number is decided of all below a bound
 --     fit_sizes, well_shaped, between, rising, well_ranged, not_falling, ordered, room_enough    each fact that a condition names
 --     Decided, number_of    a list of conditions that are decided has a first that does not hold, or none
---     job_conditions         the first eight conditions of a job, which do not look at the buffers
+--     job_conditions        the first eight conditions of a job, which do not look at the buffers
 --     job_decided, job_number    they are decided, and give a number
 --     every_number          so do all nine
 -- Assumes nothing.

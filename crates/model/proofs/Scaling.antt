@@ -1,7 +1,7 @@
 -- The scaled exact cost is p times 1000000 over f, times the product of all frequencies: taking one frequency out of the product and
 -- multiplying by it again gives the product back.
---     others_product    the other frequencies' product, times the one that was left out
---     exact_cost_scaled        the scaled cost of a level, times its frequency
+--     others_product       the other frequencies' product, times the one that was left out
+--     exact_cost_scaled    the scaled cost of a level, times its frequency
 -- Assumes nothing.
 use Prim.Native.Nat.{ℕ, zero, suc, ◌*◌, ◌<◌}
 use mathlib.Core.Path.{◌≡◌, ap, ◌∙◌}

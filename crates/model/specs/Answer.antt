@@ -1,10 +1,10 @@
 -- What the caller gets back: the one record that the planner's contract cites.
 --     number_of    the number that 01 gives to each case of the answer
 --     total_of     its total in picowatts
---     Ruled       a full plan of a job, by the tie rule
---     Kept        everything as it was, and no total
---     Accepted    the total, the plan and both buffers where nothing is refused
---     Answered    the answer to a job, whatever the job is
+--     Ruled        a full plan of a job, by the tie rule
+--     Kept         everything as it was, and no total
+--     Accepted     the total, the plan and both buffers where nothing is refused
+--     Answered     the answer to a job, whatever the job is
 -- Assumes nothing.
 use Rattle.std.specs.Prelude.{ℕ, ◌≤◌, ◌<◌, ◌≡◌, List, ◌++◌, length, drop}
 use Rattle.model.specs.declared.Planned.{Planned}

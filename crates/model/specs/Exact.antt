@@ -2,7 +2,7 @@
 -- stands only in statements; the planner never works it out.
 --     product       the product of a list
 --     others        that product without the entry at a place
---     exact_cost     p times 1000000 over f at a level, times the product
+--     exact_cost    p times 1000000 over f at a level, times the product
 --     scale         the product of all the table's frequencies
 --     exact         the exact power of a placement in picowatts, times the product
 --     WholeCosts    no cost of the table has to be rounded

@@ -1,9 +1,9 @@
 -- The level of a heaviest load, and what a cycle costs there.
---     lowest       the first of rising frequencies that is at least a load, counted from 0; the list's length where there is none
+--     lowest        the first of rising frequencies that is at least a load, counted from 0; the list's length where there is none
 --     level_of      the level of an active island, by its heaviest load
 --     rounded_up    a quotient, rounded up to a whole number
---     cost         the cost of a level, in femtojoules per cycle
---     charge       the cost of the level of a heaviest load: what each kHz on the island is charged
+--     cost          the cost of a level, in femtojoules per cycle
+--     charge        the cost of the level of a heaviest load: what each kHz on the island is charged
 -- Assumes nothing.
 use Rattle.std.specs.Prelude.{ℕ, suc, ◌+◌, ◌-◌, ◌*◌, ◌/◌, cond, List, [], ◌∷◌, leb, get_or}
 use Rattle.model.specs.Limits.{million}

@@ -1,16 +1,16 @@
 -- The power of a placement: Equation (1) of source document 004, without the factor D.
---     each         a figure for each of v islands, the lowest number first
---     held         the loads on an island
---     heaviest     the heaviest of some loads
---     sum          the sum of a list
---     active       whether some load is above 0
---     drawn        what an island draws, by the loads on it
---     power        the sum over the islands
---     own          the island power of a job, in picowatts
---     total        that sum for a job, in picowatts, with each level's cost rounded up
+--     each          a figure for each of v islands, the lowest number first
+--     held          the loads on an island
+--     heaviest      the heaviest of some loads
+--     sum           the sum of a list
+--     active        whether some load is above 0
+--     drawn         what an island draws, by the loads on it
+--     power         the sum over the islands
+--     own           the island power of a job, in picowatts
+--     total         that sum for a job, in picowatts, with each level's cost rounded up
 --     level_number  the level number of an island, 0 where it is inactive
---     levels       that of each island
---     workload     W, the sum of a job's loads in kHz
+--     levels        that of each island
+--     workload      W, the sum of a job's loads in kHz
 -- A plan is a list of island numbers, one a load. Assumes nothing.
 use Rattle.std.specs.Prelude.{ℕ, zero, suc, ◌+◌, ◌*◌, max, Bool, cond, List, [], ◌∷◌, eqb, ltb}
 use Rattle.model.specs.Limits.{million}

@@ -1,12 +1,12 @@
 -- The nine causes of a refusal in their order, and "the first that applies". For each number stands what has to hold; the cause that
 -- 01 names is that it does not.
---     Condition     a number, and what has to hold so that a job is not refused by it
---     Tried         a number is that of the first condition that does not hold, or 0 where all hold
---     AllHold       all conditions of a list hold
---     FirstCause    the same of a number above 0, in plain words: all before it hold, and it does not
+--     Condition      a number, and what has to hold so that a job is not refused by it
+--     Tried          a number is that of the first condition that does not hold, or 0 where all hold
+--     AllHold        all conditions of a list hold
+--     FirstCause     the same of a number above 0, in plain words: all before it hold, and it does not
 --     FitSizes, Ordered, last_of, RoomEnough    what 1, 7, 8 and 9 speak of
 --     size_conditions, table_conditions, power_conditions, load_conditions, room_conditions    the rows 1; 2 to 4; 5; 6 to 8; 9
---     conditions    the nine of a job and of the lengths of the two lent buffers
+--     conditions     the nine of a job and of the lengths of the two lent buffers
 --     cause_number   the number of each case of the enum
 -- Assumes nothing.
 use Rattle.std.specs.Prelude.{ℕ, ◌+◌, ◌-◌, ◌*◌, ◌≤◌, ◌<◌, ◌≡◌, ◌⊎◌, List, [], ◌∷◌, ◌++◌, length, get_or}

@@ -1,18 +1,18 @@
 -- Examples: the shape of section 5.1 of source document 004, a crossing and a tie. The board cases stand in BoardCases.
---     paper_plan          "with V = 4, Q = 3 and highest positions 5, 7, 11, 12, the islands are {3,4,5}, {2,6,7}, {9,10,11}, {1,8,12}"
---     paper_highest       these are its highest positions
---     paper_members       and these its islands, each from the highest position down
---     paper_run           it has the shape of a run
---     paper_uncrossed     so it has no crossing
---     paper_one           no other plan without a crossing has these highest positions
---     crossing_plan       two islands that take turns cross
---     tied_uncrossed      "(a tie)", case 6: two plans without a crossing
---     tied_totals         with the same total
---     tied_members        that differ in the second member of the top island
---     tied_taken          the plan function takes the one with the greater member
---     tied_refused        and the tie rule refuses the other
---     gaps_settled        "each gap is […] settled by the same rule by itself": case 1 in the gap below a top island that takes the last two
---     gaps_dearer         a plan that settles the top island and fills this gap in order draws more
+--     paper_plan         "with V = 4, Q = 3 and highest positions 5, 7, 11, 12, the islands are {3,4,5}, {2,6,7}, {9,10,11}, {1,8,12}"
+--     paper_highest      these are its highest positions
+--     paper_members      and these its islands, each from the highest position down
+--     paper_run          it has the shape of a run
+--     paper_uncrossed    so it has no crossing
+--     paper_one          no other plan without a crossing has these highest positions
+--     crossing_plan      two islands that take turns cross
+--     tied_uncrossed     "(a tie)", case 6: two plans without a crossing
+--     tied_totals        with the same total
+--     tied_members       that differ in the second member of the top island
+--     tied_taken         the plan function takes the one with the greater member
+--     tied_refused       and the tie rule refuses the other
+--     gaps_settled       "each gap is […] settled by the same rule by itself": case 1 in the gap below a top island that takes the last two
+--     gaps_dearer        a plan that settles the top island and fills this gap in order draws more
 -- Assumes nothing.
 use Prim.Native.Nat.{ℕ, zero, suc, ◌+◌, ◌≤◌, ◌<◌}
 use mathlib.Core.Path.{◌≡◌, refl, sym, subst, ◌∙◌}

@@ -1,12 +1,12 @@
 -- The recurrence: the least total of every run.
---     itself      what an island with a given heaviest load draws by itself
---     first       the first of m + 1 places at which a figure is least
---     least       the least of m + 1 figures
+--     itself       what an island with a given heaviest load draws by itself
+--     first        the first of m + 1 places at which a figure is least
+--     least        the least of m + 1 figures
 --     gap_cost     what the gap below the highest of r + 2 members costs with all below it, if g islands stand in the gap
 --     load_at      the load above m islands and r members of a run
 --     top_load     the load of a run's last position
---     fill        the least cost of the lowest r + 1 members of an island, with m islands in the gaps below them
---     best        the least total of a run; bestWithin, the same with a bound on its depth
+--     fill         the least cost of the lowest r + 1 members of an island, with m islands in the gaps below them
+--     best         the least total of a run; best_within, the same with a bound on its depth
 --     fill_best    `fill` over these bests
 -- A run begins at place i of the list of loads and has v islands. The inner bests, and the costs of fewer members, are handed on as
 -- functions, so that what is said holds of any table of figures. Assumes nothing.

@@ -1,7 +1,7 @@
 -- The plan as a function: from the highest member down, the smallest gap that attains the least.
---     chosen      how many islands the top gap gets
+--     chosen       how many islands the top gap gets
 --     plan_gaps    the gap walker: the lowest r + 1 members of the island x with m islands in the gaps below them
---     plan_run     the run writer: a run that begins at place i, its islands base + 1 to base + v; planWithin, with a bound on its depth
+--     plan_run     the run writer: a run that begins at place i, its islands base + 1 to base + v; plan_within, with a bound on its depth
 --     plan_by      the run writer over any table of bests
 --     best_gap, walk    `chosen` and `plan_gaps` over the bests and over these runs
 -- Assumes nothing.

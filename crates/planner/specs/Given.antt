@@ -1,5 +1,5 @@
 -- The job that is made of a caller's numbers and lent lists, and what two parts of it decide.
---     job_of         the job
+--     job_of        the job
 --     LoadsTried    causes 6 to 8, by the sizes, the frequencies and the loads: whatever else the job has
 --     RoomTried     cause 9, by the islands and the number of loads
 -- Assumes nothing.

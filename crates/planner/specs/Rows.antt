@@ -1,7 +1,7 @@
 -- The rows of a run: for the lowest r + 1 members of its top island, the least cost with n islands in the gaps below them.
---     row_at    what row r has for n islands; rows stand one after another, a figure for each number of islands
+--     row_at   what row r has for n islands; rows stand one after another, a figure for each number of islands
 --     Filling  the rows of up to r + 1 members, of at most m islands, are those of the recurrence
--- All rows together are most-cores · most-islands figures, which is most-places. Assumes nothing.
+-- All rows together are most_cores · most_islands figures, which is most_places. Assumes nothing.
 use Rattle.std.specs.Prelude.{ℕ, ◌+◌, ◌*◌, ◌≤◌, ◌≡◌, List, get_or}
 use Rattle.model.specs.Limits.{most_islands}
 use Rattle.optimum.specs.Best.{fill}

@@ -1,12 +1,12 @@
 -- The table of bests: a square as wide as the largest board has positions, where the best total of a run stands by its first and its
 -- last position.
 --     square_size    the entries of the square
---     place         where the best of a run of some islands that begins at i stands
+--     place          where the best of a run of some islands that begins at i stands
 --     best_at        what the table has for a run; a run of no islands costs nothing and has no place
 --     run_cost       the total of a run of m + 1 islands, by what a table has for shorter runs
---     Grown         a table with the runs of m + 1 islands added, by what it had before
---     Filled        a table that has the best of every run of at most v islands
---     Found         the same, for every charge that the charges of the positions agree with
+--     Grown          a table with the runs of m + 1 islands added, by what it had before
+--     Filled         a table that has the best of every run of at most v islands
+--     Found          the same, for every charge that the charges of the positions agree with
 -- The runs that count end at or before the last position. Assumes nothing.
 use Rattle.std.specs.Prelude.{ℕ, zero, suc, ◌+◌, ◌-◌, ◌*◌, ◌≤◌, ◌≡◌, List, length, get_or}
 use Rattle.model.specs.Limits.{most_places}
