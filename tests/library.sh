@@ -5,6 +5,6 @@ cd "$(dirname "$0")/.." || exit 1
 . tests/tools.sh
 need_rt
 
-say "proving mizhgavul and the crates below it; what is unchanged is not proved again"
+say "proving mizhgavul_c and the crates below it; what is unchanged is not proved again"
 make_library || exit 1
 say "written to $library"

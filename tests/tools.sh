@@ -45,8 +45,8 @@ library=target/staticlib/libmizhgavul.a
 # one it runs on; where that fails, shows what the toolchain said and leaves no library of other code
 make_library() {
     rm -f "$library"
-    if said=$(cd crates/mizhgavul && rt lib --cpu x86-64 2>&1); then
-        mkdir -p "${library%/*}" && cp crates/mizhgavul/out/libmizhgavul.a "$library"
+    if said=$(cd crates/mizhgavul_c && rt lib --cpu x86-64 2>&1); then
+        mkdir -p "${library%/*}" && cp crates/mizhgavul_c/out/libmizhgavul_c.a "$library"
         return
     fi
     printf '%s\n' "$said"

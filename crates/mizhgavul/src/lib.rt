@@ -1,5 +1,5 @@
-// The planner for callers in C: one function, which include/mizhgavul.h declares. A slice arrives as a pointer and a count, the answer
-// leaves as a number, and the total through a pointer. Assumes nothing.
+// The planner over bare numbers, as callers in C hand them over: one function, which the crate mizhgavul_c exports and
+// include/mizhgavul.h declares. The answer leaves as a number, and the total through a reference. Assumes nothing.
 #![tactic(auto)]
 
 ghost use Rattle.model.specs.Answer.{Answered};
@@ -9,8 +9,7 @@ use model::Planned;
 use units::Microwatts;
 
 // Plans a job: the planner's own answer, 0 or the number of the first cause that applies, with the total in `total_pw`.
-#[unsafe(no_mangle)]
-pub extern "C" fn mizhgavul_plan(
+pub fn mizhgavul_plan(
     islands: u64,
     cores: u64,
     island_power_uw: u32,
