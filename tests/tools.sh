@@ -47,9 +47,17 @@ links_c() {
     return $linked
 }
 
-# make_library: writes the library for callers in C; where that fails, shows what the toolchain said
+# the library for callers in C
+library=target/staticlib/libmizhgavul.a
+
+# make_library: proves what the library for callers in C stands on, and writes it for every x86-64 processor, since it can't check which
+# one it runs on; where that fails, shows what the toolchain said and leaves no library of other code
 make_library() {
-    said=$(rt staticlib mizhgavul 2>&1) && return 0
+    rm -f "$library"
+    if said=$(cd crates/mizhgavul_c && rt lib --cpu x86-64 2>&1); then
+        mkdir -p "${library%/*}" && cp crates/mizhgavul_c/out/libmizhgavul_c.a "$library"
+        return
+    fi
     printf '%s\n' "$said"
     return 1
 }
@@ -58,7 +66,7 @@ make_library() {
 built() {
     file=$1
     shift
-    $cc -std=c11 -Wall -Wextra -Werror -Iinclude "$@" target/staticlib/libmizhgavul.a -o "$file"
+    $cc -std=c11 -Wall -Wextra -Werror -Iinclude "$@" "$library" -o "$file"
 }
 
 # emulate FILE WORD..: runs x86-64 code; where the machine is another one, the toolchain has an emulator

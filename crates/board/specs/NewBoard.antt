@@ -1,25 +1,24 @@
 -- What making a board answers: the number of each case, and the board that is made.
 -- Assumes nothing.
-use Prim.Native.Nat.{ℕ}
-use mathlib.Core.Path.{_≡_}
-use Rattle·units.specs.declared.Microwatts.{Microwatts}
-use Rattle·model.specs.Limits.{most-islands, most-cores, most-places, most-island-power}
-use Rattle·model.specs.Refusals.{Tried, sizeConditions, causeNumber}
-use Rattle·board·specs.specs.declared.NewBoard.{NewBoard}
-use Rattle·board·specs.specs.declared.NewBoard.the-variants.{Made, Refused}
+use Rattle.std.specs.Prelude.{ℕ, ◌≡◌}
+use Rattle.units.specs.declared.Microwatts.{Microwatts}
+use Rattle.model.specs.Limits.{most_islands, most_cores, most_places, most_island_power}
+use Rattle.model.specs.Refusals.{Tried, size_conditions, cause_number}
+use Rattle.board.specs.declared.NewBoard.{NewBoard}
+use Rattle.board.specs.declared.NewBoard.TheVariants.{Made, Refused}
 
 -- 0 where a board is made, else the number of the cause
-abbrev pub boardNumber : NewBoard → ℕ
-boardNumber (Made b) = 0
-boardNumber (Refused cause) = causeNumber cause
+abbrev pub board_number : NewBoard → ℕ
+board_number (Made b) = 0
+board_number (Refused cause) = cause_number cause
 
 pub record BoardAnswer (islands cores : ℕ) (power : Microwatts) (r : NewBoard) : Type 0 where
-  pub tried : Tried (sizeConditions islands cores) (boardNumber r)
-  pub made : boardNumber r ≡ 0 → r ≡ Made (record { islands = islands; cores = cores; power = power })
+  pub tried : Tried (size_conditions islands cores) (board_number r)
+  pub made : board_number r ≡ 0 → r ≡ Made (record { islands = islands; cores = cores; power = power })
 
 -- the limits that the board record names are the model's
 pub record LimitsAgree (islands cores places power : ℕ) : Type 0 where
-  pub islands-named : islands ≡ most-islands
-  pub cores-named : cores ≡ most-cores
-  pub places-named : places ≡ most-places
-  pub power-named : power ≡ most-island-power
+  pub islands_named : islands ≡ most_islands
+  pub cores_named : cores ≡ most_cores
+  pub places_named : places ≡ most_places
+  pub power_named : power ≡ most_island_power

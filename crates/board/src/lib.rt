@@ -1,12 +1,15 @@
 // The board: how many islands, how many cores on each, and what an active island draws by itself. Its limits are named here, once.
 // Assumes nothing.
+#![tactic(auto)]
+
+ghost use Rattle.std.specs.Prelude.{◌≡◌, leb};
+ghost use Rattle.model.specs.Limits.{most_island_power};
+ghost use Rattle.board.specs.NewBoard.{BoardAnswer, LimitsAgree};
+
 use model::Refusal;
 use units::Microwatts;
-ghost use mathlib.Core.Path.{_≡_};
-ghost use lib.Dec.{leb};
-ghost use Rattle·model.specs.Limits.{most-island-power};
-ghost use Rattle·board·specs.specs.NewBoard.{BoardAnswer, LimitsAgree};
 
+#[derive(Clone, Copy)]
 pub struct Board {
     pub islands: u64,
     pub cores: u64,
@@ -14,6 +17,7 @@ pub struct Board {
 }
 
 // A board, or the cause why there is none.
+#[derive(Clone, Copy)]
 pub enum NewBoard {
     Made(Board),
     Refused(Refusal),
@@ -31,13 +35,8 @@ impl Board {
     // A board of any two sizes: refused by 1 where one of them is 0 or above its limit. The island power is taken as it comes,
     // because the table is tried before it.
     pub fn new(islands: u64, cores: u64, power: Microwatts) -> NewBoard
-        ensures { λ r. ⌜ BoardAnswer islands cores power r ⌝ }
-        ensures { λ r. do
-          i ← ⟦Board::ISLANDS⟧ .entry
-          c ← ⟦Board::CORES⟧ .entry
-          p ← ⟦Board::PLACES⟧ .entry
-          h ← ⟦Board::ISLAND_POWER⟧ .entry
-          ⌜ LimitsAgree i c p h ⌝ }
+        ensures answer { BoardAnswer islands cores power result }
+        ensures limits { LimitsAgree Board.ISLANDS Board.CORES Board.PLACES Board.ISLAND_POWER }
     {
         if islands < 1 {
             return NewBoard::Refused(Refusal::Sizes);
@@ -60,7 +59,7 @@ impl Board {
 
     // Whether the island power is within its limit: a job is refused by 5 where it is not.
     pub fn power_allowed(self) -> bool
-        ensures { λ r. ⌜ r ≡ leb (self .power .0) most-island-power ⌝ }
+        ensures { result ≡ leb self.power.0 most_island_power }
     {
         let power = self.power;
         power.0 <= Board::ISLAND_POWER

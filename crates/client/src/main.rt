@@ -1,7 +1,8 @@
 // A caller of the exported function, in Rattle. What it expects of its calls is proved: `check::expect` asks that its test is true, so
 // this program stands on every part of the function's contract, the bytes beyond and the bytes of a refusal too. It writes nothing.
-use check::expect;
-use check::same;
+#![tactic(auto)]
+
+use check::{expect, same};
 
 // Case 2, with a byte more in each buffer than it needs.
 fn planned() {

@@ -1,20 +1,18 @@
 // The levels of a table: which one a load gets, and what a cycle costs there. Both are functions of the whole table, so each takes both
 // of its lists, lent as the caller has them. `level` and `cost` ask nothing: any lists, any load, any level, also one past the end.
-use units::Femtojoules;
-use units::Kilohertz;
-use units::Microwatts;
-ghost use mathlib.Core.Path.{_≡_};
-ghost use Prim.Native.Nat.{_*_, _<_, _^_};
-ghost use lib.Dec.{leb};
-ghost use lib.ListN.{length, getD};
-ghost use Rattle·model.specs.Limits.{million};
-ghost use Rattle·model.specs.Table.{tableOf};
-ghost use Rattle·model.specs.Level.{levelOf, roundedUp, cost};
+#![tactic(auto)]
+
+ghost use Rattle.std.specs.Prelude.{◌≡◌, ◌*◌, ◌<◌, ◌^◌, leb, length, get_or};
+ghost use Rattle.model.specs.Limits.{million};
+ghost use Rattle.model.specs.Table.{table_of};
+ghost use Rattle.model.specs.Level.{level_of, rounded_up, cost};
+
+use units::{Femtojoules, Kilohertz, Microwatts};
 
 // Whether the level k is fast enough for a load.
 fn carries_at(frequencies: &[u32], k: usize, load: Kilohertz) -> bool
-    requires { ⌜ k < length (now frequencies) ⌝ }
-    ensures { λ r. ⌜ r ≡ leb (load .0) (getD (now (frequencies .entry)) k 0) ⌝ }
+    requires { k < length frequencies.now }
+    ensures { result ≡ leb load.0 (get_or frequencies.now k 0) }
 {
     Kilohertz::of_level(frequencies[k]).carries(load)
 }
@@ -22,7 +20,7 @@ fn carries_at(frequencies: &[u32], k: usize, load: Kilohertz) -> bool
 // The lowest level whose frequency is at least the load, counted from 0, or the number of levels where there is none. The level is a
 // function of the table, so the powers are handed over too, though nothing of them is read.
 pub fn level(frequencies: &[u32], powers: &[u32], load: Kilohertz) -> usize
-    ensures { λ r. ⌜ r ≡ levelOf (tableOf (now (frequencies .entry)) (now (powers .entry))) (load .0) ⌝ }
+    ensures { result ≡ level_of (table_of frequencies.now powers.now) load.0 }
 {
     let mut at = 0;
     while at < frequencies.len() {
@@ -36,7 +34,7 @@ pub fn level(frequencies: &[u32], powers: &[u32], load: Kilohertz) -> usize
 
 // An entry of a list, or 0 past its end.
 fn entry(values: &[u32], k: usize) -> u32
-    ensures { λ r. ⌜ r ≡ getD (now (values .entry)) k 0 ⌝ }
+    ensures { result ≡ get_or values.now k 0 }
 {
     if values.len() <= k {
         return 0;
@@ -46,8 +44,8 @@ fn entry(values: &[u32], k: usize) -> u32
 
 // The power over the frequency in femtojoules per cycle, rounded up; 0 where the frequency is 0, because the definition's quotient is.
 fn per_cycle(frequency: Kilohertz, power: Microwatts) -> Femtojoules
-    requires { ⌜ frequency .0 < 2 ^ 32 ⌝ }
-    ensures { λ r. ⌜ r .0 ≡ roundedUp (power .0 * million) (frequency .0) ⌝ }
+    requires { frequency.0 < 2 ^ 32 }
+    ensures { result.0 ≡ rounded_up (power.0 * million) frequency.0 }
 {
     let f = frequency.0;
     if f < 1 {
@@ -59,7 +57,7 @@ fn per_cycle(frequency: Kilohertz, power: Microwatts) -> Femtojoules
 
 // The cost of a level, by its number counted from 0. Past the end of either list it is 0, as the definition has it there.
 pub fn cost(frequencies: &[u32], powers: &[u32], level: usize) -> Femtojoules
-    ensures { λ r. ⌜ r .0 ≡ cost (tableOf (now (frequencies .entry)) (now (powers .entry))) level ⌝ }
+    ensures { result.0 ≡ cost (table_of frequencies.now powers.now) level }
 {
     let frequency = Kilohertz::of_level(entry(frequencies, level));
     let power = Microwatts(entry(powers, level));

@@ -1,13 +1,15 @@
-// The planner for callers in C: one function, which include/mizhgavul.h declares. A slice arrives as a pointer and a count, the answer
-// leaves as a number, and the total through a pointer. Assumes nothing.
+// The planner over bare numbers, as callers in C hand them over: one function, which the crate mizhgavul_c exports and
+// include/mizhgavul.h declares. The answer leaves as a number, and the total through a reference. Assumes nothing.
+#![tactic(auto)]
+
+ghost use Rattle.model.specs.Answer.{Answered};
+ghost use Rattle.model.specs.Job.{job_of};
+
 use model::Planned;
 use units::Microwatts;
-ghost use Rattle·model.specs.Answer.{Answered};
-ghost use Rattle·model.specs.Job.{jobOf};
 
 // Plans a job: the planner's own answer, 0 or the number of the first cause that applies, with the total in `total_pw`.
-#[no_mangle]
-pub extern "C" fn mizhgavul_plan(
+pub fn mizhgavul_plan(
     islands: u64,
     cores: u64,
     island_power_uw: u32,
@@ -18,11 +20,11 @@ pub extern "C" fn mizhgavul_plan(
     levels: &mut [u8],
     total_pw: &mut u64,
 ) -> u32
-    ensures { λ r. ⌜ Answered
-        (jobOf islands cores «island_power_uw» (now («frequencies_khz» .entry)) (now («powers_uw» .entry)) (now («loads_khz» .entry)))
-        (now (plan .entry)) (now (levels .entry))
-        r (now («total_pw» .exit))
-        (now (plan .exit)) (now (levels .exit)) ⌝ }
+    ensures { Answered
+        (job_of islands cores island_power_uw frequencies_khz.now powers_uw.now loads_khz.now)
+        plan.old levels.old
+        result total_pw.new
+        plan.new levels.new }
 {
     let planned = planner::plan(
         islands,

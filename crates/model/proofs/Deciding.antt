@@ -1,26 +1,26 @@
 -- Every condition is decided, so every job has a number. What is here computes: the number of a job that is written out is found by
 -- unfolding.
 --     carried, both         decisions of a fact that says the same, and of two facts together
---     all-below, all-pairs  what is decided of every number is decided of all below a bound
---     fit-sizes, well-shaped, between, rising, well-ranged, not-falling, ordered, room-enough    each fact that a condition names
---     Decided, number-of    a list of conditions that are decided has a first that does not hold, or none
---     job-decided, job-number    the first eight conditions of a job are decided, and give a number
---     every-number          so do all nine
+--     all_below, all_pairs  what is decided of every number is decided of all below a bound
+--     fit_sizes, well_shaped, between, rising, well_ranged, not_falling, ordered, room_enough    each fact that a condition names
+--     Decided, number_of    a list of conditions that are decided has a first that does not hold, or none
+--     job_decided, job_number    the first eight conditions of a job are decided, and give a number
+--     every_number          so do all nine
 -- Assumes nothing.
-use Prim.Native.Nat.{ℕ, zero, suc, _+_, _-_, _*_, _<_}
+use Prim.Native.Nat.{ℕ, zero, suc, ◌+◌, ◌-◌, ◌*◌, ◌<◌}
 use mathlib.Core.Path.{refl}
 use mathlib.Core.Logic.{inl, inr}
-use mathlib.Core.List.{List, [], _∷_, _++_}
+use mathlib.Core.List.{List, [], ◌∷◌, ◌++◌}
 use native.Mathlib.Nat.{not-suc-le-zero}
-use native.Mathlib.Decide.{decLe, decLt, ℕ-discrete}
+use native.Mathlib.Decide.{dec_le, dec_lt, ℕ_discrete}
 use native.Mathlib.Omega.{arith}
-use borrow.Author.Count.{below-more}
-use lib.ListN.{length, getD}
-use Rattle·model·specs.specs.Limits.{most-islands, most-cores, most-levels, most-island-power, least-frequency, most-frequency, least-power, most-power}
-use Rattle·model·specs.specs.Table.{Table, WellShaped, Between, Rising, WellRanged, NotFalling}
-use Rattle·model·specs.specs.Job.{Job}
-use Rattle·model·specs.specs.Refusals.{Condition, Tried, FitSizes, RoomEnough, jobConditions, roomConditions, conditions}
-use Rattle·model·specs.specs.Ordered.{Ordered, lastOf}
+use borrow.Author.Count.{below_more}
+use lib.ListN.{length, get_or}
+use Rattle.model.specs.Limits.{most_islands, most_cores, most_levels, most_island_power, least_frequency, most_frequency, least_power, most_power}
+use Rattle.model.specs.Table.{Table, WellShaped, Between, Rising, WellRanged, NotFalling}
+use Rattle.model.specs.Job.{Job}
+use Rattle.model.specs.Refusals.{Condition, Tried, FitSizes, RoomEnough, job_conditions, room_conditions, conditions}
+use Rattle.model.specs.Ordered.{Ordered, last_of}
 
 -- a decision of a fact is one of each fact that says the same; the library's map-dec says this too, but it does not compute here
 unfoldable pub carried : {A B : Type 0} → (A → B) → (B → A) → Dec A → Dec B
@@ -30,110 +30,110 @@ carried f g (no n) = no (λ b. n (g b))
 -- two facts together
 unfoldable pub both : {A B : Type 0} → Dec A → Dec B → Dec (A × B)
 both (yes a) (yes b) = yes (a, b)
-both (yes a) (no n) = no (λ p. n (p .1))
-both (no n) b = no (λ p. n (p .0))
+both (yes a) (no n) = no (λ p. n p.1)
+both (no n) b = no (λ p. n p.0)
 
 module _ (P : ℕ → Type 0) where
   -- what is decided of every number is decided of all below a bound
-  unfoldable pub all-below : ((k : ℕ) → Dec (P k)) → (n : ℕ) → Dec ((k : ℕ) → k < n → P k)
+  unfoldable pub all_below : ((k : ℕ) → Dec (P k)) → (n : ℕ) → Dec ((k : ℕ) → k < n → P k)
   unfolding carried both
-  all-below dec zero = yes (λ k within. absurd (not-suc-le-zero within))
-  all-below dec (suc n) =
-      carried (λ held k within. below-more P n (held .0) (held .1) k (omega arith))
-      (λ all. (λ k within. all k (omega arith), all n (omega arith))) (both (all-below dec n) (dec n))
+  all_below dec zero = yes (λ k within. absurd (not-suc-le-zero within))
+  all_below dec (suc n) =
+      carried (λ held k within. below_more P n held.0 held.1 k (omega arith))
+      (λ all. (λ k within. all k (omega arith), all n (omega arith))) (both (all_below dec n) (dec n))
 
   -- and of each that has another above it, below the bound
-  unfoldable pub all-pairs : ((k : ℕ) → Dec (P k)) → (n : ℕ) → Dec ((k : ℕ) → k + 1 < n → P k)
-  unfolding carried all-below
-  all-pairs dec n =
-      carried (λ all k within. all k (omega arith)) (λ all k within. all k (omega arith)) (all-below dec (n - 1))
+  unfoldable pub all_pairs : ((k : ℕ) → Dec (P k)) → (n : ℕ) → Dec ((k : ℕ) → k + 1 < n → P k)
+  unfolding carried all_below
+  all_pairs dec n =
+      carried (λ all k within. all k (omega arith)) (λ all k within. all k (omega arith)) (all_below dec (n - 1))
 
 -- each fact that a condition names, from the decisions of its fields
-unfoldable pub fit-sizes : (islands cores : ℕ) → Dec (FitSizes islands cores)
-unfolding carried both decLe
-fit-sizes islands cores =
-    carried (λ p. record { some-island = p .0; few-islands = p .1 .0; some-core = p .1 .1 .0; few-cores = p .1 .1 .1 })
-    (λ f. (f .some-island, (f .few-islands, (f .some-core, f .few-cores))))
-    (both (decLe 1 islands) (both (decLe islands most-islands) (both (decLe 1 cores) (decLe cores most-cores))))
+unfoldable pub fit_sizes : (islands cores : ℕ) → Dec (FitSizes islands cores)
+unfolding carried both dec_le
+fit_sizes islands cores =
+    carried (λ p. record { some_island = p.0; few_islands = p.1.0; some_core = p.1.1.0; few_cores = p.1.1.1 })
+    (λ f. (f.some_island, (f.few_islands, (f.some_core, f.few_cores))))
+    (both (dec_le 1 islands) (both (dec_le islands most_islands) (both (dec_le 1 cores) (dec_le cores most_cores))))
 
-unfoldable pub well-shaped : (t : Table) → Dec (WellShaped t)
-unfolding carried both decLe ℕ-discrete
-well-shaped t =
-    carried (λ p. record { some-level = p .0; few-levels = p .1 .0; same-length = p .1 .1 })
-    (λ w. (w .some-level, (w .few-levels, w .same-length)))
-    (both (decLe 1 (length (t .frequencies)))
-    (both (decLe (length (t .frequencies)) most-levels) (ℕ-discrete (length (t .powers)) (length (t .frequencies)))))
+unfoldable pub well_shaped : (t : Table) → Dec (WellShaped t)
+unfolding carried both dec_le ℕ_discrete
+well_shaped t =
+    carried (λ p. record { some_level = p.0; few_levels = p.1.0; same_length = p.1.1 })
+    (λ w. (w.some_level, (w.few_levels, w.same_length)))
+    (both (dec_le 1 (length t.frequencies))
+    (both (dec_le (length t.frequencies) most_levels) (ℕ_discrete (length t.powers) (length t.frequencies))))
 
 unfoldable pub between : (low high : ℕ) (xs : List ℕ) → Dec (Between low high xs)
-unfolding both all-below decLe
+unfolding both all_below dec_le
 between low high xs =
-    all-below _ (λ k. both (decLe low (getD xs k 0)) (decLe (getD xs k 0) high)) (length xs)
+    all_below _ (λ k. both (dec_le low (get_or xs k 0)) (dec_le (get_or xs k 0) high)) (length xs)
 
 unfoldable pub rising : (xs : List ℕ) → Dec (Rising xs)
-unfolding all-pairs decLt
+unfolding all_pairs dec_lt
 rising xs =
-    all-pairs _ (λ k. decLt (getD xs k 0) (getD xs (k + 1) 0)) (length xs)
+    all_pairs _ (λ k. dec_lt (get_or xs k 0) (get_or xs (k + 1) 0)) (length xs)
 
-unfoldable pub well-ranged : (t : Table) → Dec (WellRanged t)
+unfoldable pub well_ranged : (t : Table) → Dec (WellRanged t)
 unfolding carried both between rising
-well-ranged t =
-    carried (λ p. record { frequency-range = p .0; power-range = p .1 .0; rising = p .1 .1 })
-    (λ w. (w .frequency-range, (w .power-range, w .rising)))
-    (both (between least-frequency most-frequency (t .frequencies))
-    (both (between least-power most-power (t .powers)) (rising (t .frequencies))))
+well_ranged t =
+    carried (λ p. record { frequency_range = p.0; power_range = p.1.0; rising = p.1.1 })
+    (λ w. (w.frequency_range, (w.power_range, w.rising)))
+    (both (between least_frequency most_frequency t.frequencies)
+    (both (between least_power most_power t.powers) (rising t.frequencies)))
 
-unfoldable pub not-falling : (t : Table) → Dec (NotFalling t)
-unfolding all-pairs decLe
-not-falling t =
-    all-pairs _
-    (λ k. decLe (getD (t .powers) k 0 * getD (t .frequencies) (k + 1) 0) (getD (t .powers) (k + 1) 0 * getD (t .frequencies) k 0))
-    (length (t .frequencies))
+unfoldable pub not_falling : (t : Table) → Dec (NotFalling t)
+unfolding all_pairs dec_le
+not_falling t =
+    all_pairs _
+    (λ k. dec_le (get_or t.powers k 0 * get_or t.frequencies (k + 1) 0) (get_or t.powers (k + 1) 0 * get_or t.frequencies k 0))
+    (length t.frequencies)
 
 unfoldable pub ordered : (ws : List ℕ) → Dec (Ordered ws)
-unfolding all-pairs decLe
+unfolding all_pairs dec_le
 ordered ws =
-    all-pairs _ (λ k. decLe (getD ws k 0) (getD ws (k + 1) 0)) (length ws)
+    all_pairs _ (λ k. dec_le (get_or ws k 0) (get_or ws (k + 1) 0)) (length ws)
 
-unfoldable pub room-enough : (islands n planRoom levelRoom : ℕ) → Dec (RoomEnough islands n planRoom levelRoom)
-unfolding carried both decLe
-room-enough islands n planRoom levelRoom =
-    carried (λ p. record { plan-room = p .0; level-room = p .1 }) (λ r. (r .plan-room, r .level-room))
-    (both (decLe n planRoom) (decLe islands levelRoom))
+unfoldable pub room_enough : (islands n plan_length level_length : ℕ) → Dec (RoomEnough islands n plan_length level_length)
+unfolding carried both dec_le
+room_enough islands n plan_length level_length =
+    carried (λ p. record { plan_room = p.0; level_room = p.1 }) (λ r. (r.plan_room, r.level_room))
+    (both (dec_le n plan_length) (dec_le islands level_length))
 
 abbrev pub Decided : List Condition → Type 0
 Decided [] = Unit {0}
-Decided (c ∷ cs) = Dec (c .holds) × Decided cs
+Decided (c ∷ cs) = Dec c.holds × Decided cs
 
-unfoldable pub number-of : (cs : List Condition) → Decided cs → (n : ℕ) × Tried cs n
-number-of [] decided = (0, refl)
-number-of (c ∷ cs) decided =
-    elim (decided .0) [
+unfoldable pub number_of : (cs : List Condition) → Decided cs → (n : ℕ) × Tried cs n
+number_of [] decided = (0, refl)
+number_of (c ∷ cs) decided =
+    elim decided.0 [
       | yes holds ↦
-          let rest : (n : ℕ) × Tried cs n = number-of cs (decided .1) in
-          (rest .0, inr (holds, rest .1))
-      | no fails ↦ (c .number, inl (fails, refl))
+          let rest : (n : ℕ) × Tried cs n = number_of cs decided.1 in
+          (rest.0, inr (holds, rest.1))
+      | no fails ↦ (c.number, inl (fails, refl))
     ]
 
-both-lists : (cs ds : List Condition) → Decided cs → Decided ds → Decided (cs ++ ds)
-both-lists [] ds one other = other
-both-lists (c ∷ cs) ds one other = (one .0, both-lists cs ds (one .1) other)
+both_lists : (cs ds : List Condition) → Decided cs → Decided ds → Decided (cs ++ ds)
+both_lists [] ds one other = other
+both_lists (c ∷ cs) ds one other = (one.0, both_lists cs ds one.1 other)
 
 module _ (job : Job) where
-  unfoldable pub job-decided : Decided (jobConditions job)
-  unfolding fit-sizes well-shaped well-ranged not-falling ordered decLe
-  job-decided = (
-    fit-sizes (job .islands) (job .cores),
+  unfoldable pub job_decided : Decided (job_conditions job)
+  unfolding fit_sizes well_shaped well_ranged not_falling ordered dec_le
+  job_decided = (
+    fit_sizes job.islands job.cores,
     (
-      well-shaped (job .table),
+      well_shaped job.table,
       (
-        well-ranged (job .table),
+        well_ranged job.table,
         (
-          not-falling (job .table),
+          not_falling job.table,
           (
-            decLe (job .island-power) most-island-power,
+            dec_le job.island_power most_island_power,
             (
-              decLe (length (job .loads)) (job .islands * job .cores),
-              (ordered (job .loads), (decLe (lastOf (job .loads)) (lastOf (job .table .frequencies)), tt)),
+              dec_le (length job.loads) (job.islands * job.cores),
+              (ordered job.loads, (dec_le (last_of job.loads) (last_of job.table.frequencies), tt)),
             ),
           ),
         ),
@@ -141,12 +141,12 @@ module _ (job : Job) where
     ),
   )
 
-  unfoldable pub job-number : (n : ℕ) × Tried (jobConditions job) n
-  unfolding number-of job-decided
-  job-number = number-of (jobConditions job) job-decided
+  unfoldable pub job_number : (n : ℕ) × Tried (job_conditions job) n
+  unfolding number_of job_decided
+  job_number = number_of (job_conditions job) job_decided
 
-  pub every-number : (planRoom levelRoom : ℕ) → (n : ℕ) × Tried (conditions job planRoom levelRoom) n
-  every-number planRoom levelRoom =
-      number-of (conditions job planRoom levelRoom)
-      (both-lists (jobConditions job) (roomConditions (job .islands) (length (job .loads)) planRoom levelRoom) job-decided
-      (room-enough (job .islands) (length (job .loads)) planRoom levelRoom, tt))
+  pub every_number : (plan_length level_length : ℕ) → (n : ℕ) × Tried (conditions job plan_length level_length) n
+  every_number plan_length level_length =
+      number_of (conditions job plan_length level_length)
+      (both_lists (job_conditions job) (room_conditions job.islands (length job.loads) plan_length level_length) job_decided
+      (room_enough job.islands (length job.loads) plan_length level_length, tt))

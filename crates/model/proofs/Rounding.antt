@@ -1,57 +1,57 @@
 -- Rounding up, and what it means for the cost of a level.
---     rounded-covers    the rounded quotient is not too small
---     rounded-close     nor too large by one
---     rounded-least     no smaller whole number covers
---     rounded-whole     where the quotient is whole, it is itself
---     rounded-none      over 0 it is 0: the definition's quotient is
---     rounded-rises     of two quotients, the one that is not above the other is not above it when both are rounded
---     cost-covers, cost-close    the first two at a level: demand 3 stands on them
+--     rounded_covers    the rounded quotient is not too small
+--     rounded_close     nor too large by one
+--     rounded_least     no smaller whole number covers
+--     rounded_whole     where the quotient is whole, it is itself
+--     rounded_none      over 0 it is 0: the definition's quotient is
+--     rounded_rises     of two quotients, the one that is not above the other is not above it when both are rounded
+--     cost_covers, cost_close    the first two at a level: demand 3 stands on them
 -- Assumes nothing.
-use Prim.Native.Nat.{ℕ, suc, _+_, _-_, _*_, _≤_, _<_}
-use mathlib.Core.Path.{_≡_}
-use native.Mathlib.Nat.{div-zero, lt-div-mul-add, div-mul-le-self, mul-le-mul-right, mul-right-comm}
-use native.Mathlib.Nat.{lt-of-mul-lt-mul-right, le-of-mul-le-mul-right, le-of-suc-le-suc, le-antisymm, le-of-eq, le-trans}
+use Prim.Native.Nat.{ℕ, suc, ◌+◌, ◌-◌, ◌*◌, ◌≤◌, ◌<◌}
+use mathlib.Core.Path.{◌≡◌}
+use native.Mathlib.Nat.{div-zero, lt-div-mul-add, div-mul-le_self, mul-le-mul_right, mul_right_comm}
+use native.Mathlib.Nat.{lt_of_mul-lt-mul_right, le_of_mul-le-mul_right, le_of_suc-le-suc, le_antisymm, le_of_eq, le_trans}
 use native.Mathlib.Omega.{arith}
-use lib.ListN.{getD}
-use Rattle·model·specs.specs.Limits.{million}
-use Rattle·model·specs.specs.Table.{Table}
-use Rattle·model·specs.specs.Level.{roundedUp, cost}
+use lib.ListN.{get_or}
+use Rattle.model.specs.Limits.{million}
+use Rattle.model.specs.Table.{Table}
+use Rattle.model.specs.Level.{rounded_up, cost}
 
-pub rounded-covers : (n d : ℕ) → 0 < d → n ≤ roundedUp n d * d
-unfolding roundedUp
-rounded-covers n d pos = omega (arith, lt-div-mul-add {a = n + (d - 1)} pos)
+pub rounded_covers : (n d : ℕ) → 0 < d → n ≤ rounded_up n d * d
+unfolding rounded_up
+rounded_covers n d pos = omega (arith, lt-div-mul-add {a = n + (d - 1)} pos)
 
-pub rounded-close : (n d : ℕ) → 0 < d → roundedUp n d * d < n + d
-unfolding roundedUp
-rounded-close n d pos = omega (arith, div-mul-le-self (n + (d - 1)) d)
+pub rounded_close : (n d : ℕ) → 0 < d → rounded_up n d * d < n + d
+unfolding rounded_up
+rounded_close n d pos = omega (arith, div-mul-le_self (n + (d - 1)) d)
 
-pub rounded-least : (n d c : ℕ) → 0 < d → n ≤ c * d → roundedUp n d ≤ c
-rounded-least n d c pos enough =
-    let below : roundedUp n d * d < suc c * d = omega (arith, rounded-close n d pos) in
-    le-of-suc-le-suc (lt-of-mul-lt-mul-right d below)
+pub rounded_least : (n d c : ℕ) → 0 < d → n ≤ c * d → rounded_up n d ≤ c
+rounded_least n d c pos enough =
+    let below : rounded_up n d * d < suc c * d = omega (arith, rounded_close n d pos) in
+    le_of_suc-le-suc (lt_of_mul-lt-mul_right d below)
 
-pub rounded-whole : (n d c : ℕ) → 0 < d → n ≡ c * d → roundedUp n d ≡ c
-rounded-whole n d c pos whole =
-    let above : c * d ≤ roundedUp n d * d = omega (arith, rounded-covers n d pos) in
-    le-antisymm (rounded-least n d c pos (le-of-eq whole)) (le-of-mul-le-mul-right above pos)
+pub rounded_whole : (n d c : ℕ) → 0 < d → n ≡ c * d → rounded_up n d ≡ c
+rounded_whole n d c pos whole =
+    let above : c * d ≤ rounded_up n d * d = omega (arith, rounded_covers n d pos) in
+    le_antisymm (rounded_least n d c pos (le_of_eq whole)) (le_of_mul-le-mul_right above pos)
 
-pub rounded-none : (n : ℕ) → roundedUp n 0 ≡ 0
-unfolding roundedUp
-rounded-none n = div-zero (n + (0 - 1))
+pub rounded_none : (n : ℕ) → rounded_up n 0 ≡ 0
+unfolding rounded_up
+rounded_none n = div-zero (n + (0 - 1))
 
--- n over d is at most n′ over d′, and what covers the second covers the first
-pub rounded-rises : (n d n′ d′ : ℕ) → 0 < d → 0 < d′ → n * d′ ≤ n′ * d → roundedUp n d ≤ roundedUp n′ d′
-rounded-rises n d n′ d′ pos pos′ below =
-    let c = roundedUp n′ d′ in
-    let covered : n′ * d ≤ c * d′ * d = mul-le-mul-right d (rounded-covers n′ d′ pos′) in
-    let both : n * d′ ≤ c * d * d′ = rw (mul-right-comm c d d′) (le-trans below covered) in
-    rounded-least n d c pos (le-of-mul-le-mul-right both pos′)
+-- n over d is at most n' over d', and what covers the second covers the first
+pub rounded_rises : (n d n' d' : ℕ) → 0 < d → 0 < d' → n * d' ≤ n' * d → rounded_up n d ≤ rounded_up n' d'
+rounded_rises n d n' d' pos pos' below =
+    let c = rounded_up n' d' in
+    let covered : n' * d ≤ c * d' * d = mul-le-mul_right d (rounded_covers n' d' pos') in
+    let both : n * d' ≤ c * d * d' = rw (mul_right_comm c d d') (le_trans below covered) in
+    rounded_least n d c pos (le_of_mul-le-mul_right both pos')
 
-module _ (t : Table) (k : ℕ) (pos : 0 < getD (t .frequencies) k 0) where
-  pub cost-covers : getD (t .powers) k 0 * million ≤ cost t k * getD (t .frequencies) k 0
+module _ (t : Table) (k : ℕ) (pos : 0 < get_or t.frequencies k 0) where
+  pub cost_covers : get_or t.powers k 0 * million ≤ cost t k * get_or t.frequencies k 0
   unfolding cost
-  cost-covers = rounded-covers (getD (t .powers) k 0 * million) (getD (t .frequencies) k 0) pos
+  cost_covers = rounded_covers (get_or t.powers k 0 * million) (get_or t.frequencies k 0) pos
 
-  pub cost-close : cost t k * getD (t .frequencies) k 0 < getD (t .powers) k 0 * million + getD (t .frequencies) k 0
+  pub cost_close : cost t k * get_or t.frequencies k 0 < get_or t.powers k 0 * million + get_or t.frequencies k 0
   unfolding cost
-  cost-close = rounded-close (getD (t .powers) k 0 * million) (getD (t .frequencies) k 0) pos
+  cost_close = rounded_close (get_or t.powers k 0 * million) (get_or t.frequencies k 0) pos

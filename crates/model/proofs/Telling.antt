@@ -3,7 +3,7 @@
 --     untold       a fact that does not hold is told by false
 -- Assumes nothing.
 use mathlib.Core.Bool.{true, false, true≢false, false≢true}
-use Rattle·model·specs.specs.Tells.{Tells}
+use Rattle.model.specs.Tells.{Tells}
 
 module _ {A : Type 0} where
   pub told : A → Tells true A

@@ -1,57 +1,54 @@
 -- What the caller gets back: the one record that the planner's contract cites.
---     numberOf    the number that 01 gives to each case of the answer
---     totalOf     its total in picowatts
+--     number_of    the number that 01 gives to each case of the answer
+--     total_of     its total in picowatts
 --     Ruled       a full plan of a job, by the tie rule
 --     Kept        everything as it was, and no total
 --     Accepted    the total, the plan and both buffers where nothing is refused
 --     Answered    the answer to a job, whatever the job is
 -- Assumes nothing.
-use Prim.Native.Nat.{ℕ, _≤_, _<_}
-use mathlib.Core.Path.{_≡_}
-use mathlib.Core.List.{List, _++_}
-use lib.ListN.{length, drop}
-use Rattle·model·specs.specs.declared.Planned.{Planned}
-use Rattle·model·specs.specs.declared.Planned.the-variants.{Total, Refused}
-use Rattle·model·specs.specs.Job.{Job}
-use Rattle·model·specs.specs.Power.{own, total, levels, chargeOf}
-use Rattle·model·specs.specs.Placement.{Placement}
-use Rattle·model·specs.specs.Plan.{padded, shown}
-use Rattle·model·specs.specs.TieRule.{ByRule}
-use Rattle·model·specs.specs.Refusals.{Tried, conditions, causeNumber}
+use Rattle.std.specs.Prelude.{ℕ, ◌≤◌, ◌<◌, ◌≡◌, List, ◌++◌, length, drop}
+use Rattle.model.specs.declared.Planned.{Planned}
+use Rattle.model.specs.declared.Planned.TheVariants.{Total, Refused}
+use Rattle.model.specs.Job.{Job}
+use Rattle.model.specs.Power.{own, total, levels, charge_of}
+use Rattle.model.specs.Placement.{Placement}
+use Rattle.model.specs.Plan.{padded, shown}
+use Rattle.model.specs.TieRule.{ByRule}
+use Rattle.model.specs.Refusals.{Tried, conditions, cause_number}
 
 -- "The answer is 0 with the total", or the number of the cause
-abbrev pub numberOf : Planned → ℕ
-numberOf (Total p) = 0
-numberOf (Refused cause) = causeNumber cause
+abbrev pub number_of : Planned → ℕ
+number_of (Total p) = 0
+number_of (Refused cause) = cause_number cause
 
 -- "Each returns a total of 0"
-abbrev pub totalOf : Planned → ℕ
-totalOf (Total p) = p .0
-totalOf (Refused cause) = 0
+abbrev pub total_of : Planned → ℕ
+total_of (Total p) = p.0
+total_of (Refused cause) = 0
 
 -- the plan over all V·Q positions that the tie rule names
 abbrev pub Ruled : Job → List ℕ → Type 0
-Ruled job full = ByRule (job .cores) (own job) (chargeOf job) (padded job) 0 0 (job .islands) full
+Ruled job full = ByRule job.cores (own job) (charge_of job) (padded job) 0 0 job.islands full
 
 -- plan₀ and levels₀ are the lent buffers as they came, planned and leveled as they are left
 pub record Accepted (job : Job) (plan₀ levels₀ : List ℕ) (reported : ℕ) (planned leveled : List ℕ) : Type 0 where
   -- "among equals the tie rule names one"
   pub full : List ℕ
-  pub by-rule : Ruled job full
+  pub by_rule : Ruled job full
   -- "The plan buffer receives one byte per load, its island number." "Bytes beyond the first n […] keep their values."
-  pub plan-bytes : planned ≡ shown job full ++ drop (length (job .loads)) plan₀
+  pub plan_bytes : planned ≡ shown job full ++ drop (length job.loads) plan₀
   pub placement : Placement job (shown job full)
   -- "No placement with at most the allowed sets per island has a lower total"
   pub least : (other : List ℕ) → Placement job other → total job (shown job full) ≤ total job other
-  pub reported-total : reported ≡ total job (shown job full)
+  pub reported_total : reported ≡ total job (shown job full)
   -- "The level buffer receives one byte per island: 0, or the level number counted from 1." Bytes beyond the first V keep their values.
-  pub level-bytes : leveled ≡ levels job (shown job full) ++ drop (job .islands) levels₀
+  pub level_bytes : leveled ≡ levels job (shown job full) ++ drop job.islands levels₀
 
 -- a refusal "returns a total of 0 and changes no byte of either buffer"
 pub record Kept (plan₀ levels₀ : List ℕ) (reported : ℕ) (planned leveled : List ℕ) : Type 0 where
-  pub no-total : reported ≡ 0
-  pub plan-kept : planned ≡ plan₀
-  pub levels-kept : leveled ≡ levels₀
+  pub no_total : reported ≡ 0
+  pub plan_kept : planned ≡ plan₀
+  pub levels_kept : leveled ≡ levels₀
 
 pub record Answered (job : Job) (plan₀ levels₀ : List ℕ) (number reported : ℕ) (planned leveled : List ℕ) : Type 0 where
   pub tried : Tried (conditions job (length plan₀) (length levels₀)) number

@@ -1,9 +1,5 @@
 -- Crossing islands. Assumes nothing.
-use Prim.Native.Nat.{ℕ, _<_}
-use mathlib.Core.Path.{_≡_}
-use mathlib.Core.Logic.{_≢_}
-use mathlib.Core.List.{List}
-use lib.ListN.{length, getD}
+use Rattle.std.specs.Prelude.{ℕ, ◌<◌, ◌≡◌, ◌≢◌, List, length, get_or}
 
 -- "Two islands cross if positions a < b < c < d exist with a and c on one of them, b and d on the other."
 pub record Cross (x y : ℕ) (plan : List ℕ) : Type 0 where
@@ -11,14 +7,14 @@ pub record Cross (x y : ℕ) (plan : List ℕ) : Type 0 where
   pub b : ℕ
   pub c : ℕ
   pub d : ℕ
-  pub a-b : a < b
-  pub b-c : b < c
-  pub c-d : c < d
+  pub a_b : a < b
+  pub b_c : b < c
+  pub c_d : c < d
   pub within : d < length plan
-  pub a-one : getD plan a 0 ≡ x
-  pub b-other : getD plan b 0 ≡ y
-  pub c-one : getD plan c 0 ≡ x
-  pub d-other : getD plan d 0 ≡ y
+  pub a_one : get_or plan a 0 ≡ x
+  pub b_other : get_or plan b 0 ≡ y
+  pub c_one : get_or plan c 0 ≡ x
+  pub d_other : get_or plan d 0 ≡ y
 
 -- "The returned plan has no crossing islands."
 abbrev pub NoCrossing : List ℕ → Type 0

@@ -9,20 +9,15 @@
 --     Numbered    the islands are numbered by their highest position, lowest first
 --     shown       what the caller sees of a full plan: the entries of its own loads
 -- The entry at place j of a list, from 0, is position j + 1. Assumes nothing.
-use Prim.Native.Nat.{ℕ, suc, _+_, _-_, _*_, _≤_, _<_}
-use mathlib.Core.Path.{_≡_}
-use mathlib.Core.Bool.{cond}
-use mathlib.Core.List.{List, [], _∷_, _++_}
-use lib.Dec.{eqb}
-use lib.ListN.{length, getD, drop, replicate}
-use Rattle·model·specs.specs.Job.{Job}
+use Rattle.std.specs.Prelude.{ℕ, suc, ◌+◌, ◌-◌, ◌*◌, ◌≤◌, ◌<◌, ◌≡◌, cond, List, [], ◌∷◌, ◌++◌, eqb, length, get_or, drop, replicate}
+use Rattle.model.specs.Job.{Job}
 
 -- "Put V·Q − n loads of zero in front; the positions are then 1 to V·Q."
 unfoldable pub padding : Job → ℕ
-padding job = job .islands * job .cores - length (job .loads)
+padding job = job.islands * job.cores - length job.loads
 
 unfoldable pub padded : Job → List ℕ
-padded job = replicate (padding job) 0 ++ job .loads
+padded job = replicate (padding job) 0 ++ job.loads
 
 -- the entries of the caller's own loads
 unfoldable pub shown : Job → List ℕ → List ℕ
@@ -40,11 +35,11 @@ members z p (y ∷ plan) = members z (suc p) plan ++ cond (eqb y z) (p ∷ []) [
 
 -- the highest position of the island z; 0 where it holds none
 unfoldable pub highest : (z : ℕ) (plan : List ℕ) → ℕ
-highest z plan = getD (members z 1 plan) 0 0
+highest z plan = get_or (members z 1 plan) 0 0
 
 -- every entry is one of the islands base + 1 to base + v
 abbrev pub Named : (base v : ℕ) (plan : List ℕ) → Type 0
-Named base v plan = (j : ℕ) → j < length plan → (base < getD plan j 0) × (getD plan j 0 ≤ base + v)
+Named base v plan = (j : ℕ) → j < length plan → (base < get_or plan j 0) × (get_or plan j 0 ≤ base + v)
 
 -- "The full islands hold exactly Q positions each"
 pub record Full (Q base v : ℕ) (plan : List ℕ) : Type 0 where

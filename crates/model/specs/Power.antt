@@ -7,19 +7,16 @@
 --     drawn        what an island draws, by the loads on it
 --     power        the sum over the islands
 --     own          the island power of a job, in picowatts
---     chargeOf     what each kHz on an island is charged in a job
+--     charge_of     what each kHz on an island is charged in a job
 --     total        that sum for a job, in picowatts, with each level's cost rounded up
---     levelNumber  the level number of an island, 0 where it is inactive
+--     level_number  the level number of an island, 0 where it is inactive
 --     levels       that of each island
 --     workload     W, the sum of a job's loads in kHz
 -- A plan is a list of island numbers, one a load. Assumes nothing.
-use Prim.Native.Nat.{ℕ, zero, suc, _+_, _*_, max}
-use mathlib.Core.Bool.{Bool, cond}
-use mathlib.Core.List.{List, [], _∷_}
-use lib.Dec.{eqb, ltb}
-use Rattle·model·specs.specs.Limits.{million}
-use Rattle·model·specs.specs.Level.{levelOf, charge}
-use Rattle·model·specs.specs.Job.{Job}
+use Rattle.std.specs.Prelude.{ℕ, zero, suc, ◌+◌, ◌*◌, max, Bool, cond, List, [], ◌∷◌, eqb, ltb}
+use Rattle.model.specs.Limits.{million}
+use Rattle.model.specs.Level.{level_of, charge}
+use Rattle.model.specs.Job.{Job}
 
 -- g of the islands base + 1 to base + v, in this order
 unfoldable pub each : (g : ℕ → ℕ) (base v : ℕ) → List ℕ
@@ -58,24 +55,24 @@ power own rate base v plan ws = sum (each (λ z. drawn own rate (held z plan ws)
 
 -- "the island power (in picowatts)"
 unfoldable pub own : Job → ℕ
-own job = job .island-power * million
+own job = job.island_power * million
 
 -- what each kHz on an island is charged in the job, by the island's heaviest load
-abbrev pub chargeOf : Job → ℕ → ℕ
-chargeOf job = charge (job .table)
+abbrev pub charge_of : Job → ℕ → ℕ
+charge_of job = charge job.table
 
 -- the total of a placement of the job, in picowatts
 unfoldable pub total : Job → List ℕ → ℕ
-total job plan = power (own job) (chargeOf job) 0 (job .islands) plan (job .loads)
+total job plan = power (own job) (charge_of job) 0 job.islands plan job.loads
 
 -- "0, or the level number counted from 1"; "An inactive island […] has level 0."
-unfoldable pub levelNumber : Job → List ℕ → ℕ
-levelNumber job ws = cond (active ws) (suc (levelOf (job .table) (heaviest ws))) 0
+unfoldable pub level_number : Job → List ℕ → ℕ
+level_number job ws = cond (active ws) (suc (level_of job.table (heaviest ws))) 0
 
 -- the level number of each island of the job
 unfoldable pub levels : Job → List ℕ → List ℕ
-levels job plan = each (λ z. levelNumber job (held z plan (job .loads))) 0 (job .islands)
+levels job plan = each (λ z. level_number job (held z plan job.loads)) 0 job.islands
 
 -- "W the sum of the loads in kHz"
 unfoldable pub workload : Job → ℕ
-workload job = sum (job .loads)
+workload job = sum job.loads

@@ -5,26 +5,22 @@
 --     AllHold       all conditions of a list hold
 --     FirstCause    the same of a number above 0, in plain words: all before it hold, and it does not
 --     FitSizes, RoomEnough    what 1 and 9 speak of
---     sizeConditions, tableConditions, powerConditions    the rows 1; 2 to 4; 5
---     boardConditions, loadConditions, roomConditions     the rows 1 to 5; 6 to 8; 9
---     jobConditions the first eight, which do not look at the buffers
+--     size_conditions, table_conditions, power_conditions    the rows 1; 2 to 4; 5
+--     board_conditions, load_conditions, room_conditions     the rows 1 to 5; 6 to 8; 9
+--     job_conditions the first eight, which do not look at the buffers
 --     conditions    the nine of a job and of the lengths of the two lent buffers
 -- Each row takes only what it speaks of, so that a part of a job is judged without the rest.
---     causeNumber, judgedNumber    the number of each case of the enums
+--     cause_number, judged_number    the number of each case of the enums
 -- Assumes nothing.
-use Prim.Native.Nat.{ℕ, _*_, _≤_}
-use mathlib.Core.Path.{_≡_}
-use mathlib.Core.Logic.{_⊎_}
-use mathlib.Core.List.{List, [], _∷_, _++_}
-use lib.ListN.{length}
-use Rattle·model·specs.specs.declared.Refusal.{Refusal}
-use Rattle·model·specs.specs.declared.Judged.{Judged}
-use Rattle·model·specs.specs.declared.Judged.the-variants.{Sound, Refused}
-use Rattle·model·specs.specs.declared.Refusal.the-variants.{Sizes, Levels, Ranges, Slopes, IslandPower, Count, Order, Speed, Buffers}
-use Rattle·model·specs.specs.Limits.{most-islands, most-cores, most-island-power}
-use Rattle·model·specs.specs.Table.{Table, WellShaped, WellRanged, NotFalling}
-use Rattle·model·specs.specs.Job.{Job}
-use Rattle·model·specs.specs.Ordered.{Ordered, lastOf}
+use Rattle.std.specs.Prelude.{ℕ, ◌*◌, ◌≤◌, ◌≡◌, ◌⊎◌, List, [], ◌∷◌, ◌++◌, length}
+use Rattle.model.specs.declared.Refusal.{Refusal}
+use Rattle.model.specs.declared.Judged.{Judged}
+use Rattle.model.specs.declared.Judged.TheVariants.{Sound, Refused}
+use Rattle.model.specs.declared.Refusal.TheVariants.{Sizes, Levels, Ranges, Slopes, IslandPower, Count, Order, Speed, Buffers}
+use Rattle.model.specs.Limits.{most_islands, most_cores, most_island_power}
+use Rattle.model.specs.Table.{Table, WellShaped, WellRanged, NotFalling}
+use Rattle.model.specs.Job.{Job}
+use Rattle.model.specs.Ordered.{Ordered, last_of}
 
 -- a row of 01's table of refusals, turned round
 pub record Condition : Type 1 where
@@ -34,87 +30,87 @@ pub record Condition : Type 1 where
 -- "They are tried in this order and the first that applies is given."
 abbrev pub Tried : List Condition → ℕ → Type 0
 Tried [] n = n ≡ 0
-Tried (c ∷ rest) n = ((¬ (c .holds)) × (n ≡ c .number)) ⊎ ((c .holds) × Tried rest n)
+Tried (c ∷ rest) n = ((¬ c.holds) × (n ≡ c.number)) ⊎ (c.holds × Tried rest n)
 
 -- all conditions of a list hold
 abbrev pub AllHold : List Condition → Type 0
 AllHold [] = Unit {0}
-AllHold (c ∷ cs) = c .holds × AllHold cs
+AllHold (c ∷ cs) = c.holds × AllHold cs
 
 -- the first of a list that does not hold, and its number
 pub record FirstCause (cs : List Condition) (n : ℕ) : Type 1 where
   pub before : List Condition
   pub cause : Condition
   pub after : List Condition
-  pub in-order : cs ≡ before ++ (cause ∷ after)
-  pub all-before : AllHold before
-  pub applies : ¬ (cause .holds)
-  pub its-number : n ≡ cause .number
+  pub in_order : cs ≡ before ++ (cause ∷ after)
+  pub all_before : AllHold before
+  pub applies : ¬ cause.holds
+  pub its_number : n ≡ cause.number
 
 -- refused by 1: "V or Q is 0 or above 8"
 pub record FitSizes (islands cores : ℕ) : Type 0 where
-  pub some-island : 1 ≤ islands
-  pub few-islands : islands ≤ most-islands
-  pub some-core : 1 ≤ cores
-  pub few-cores : cores ≤ most-cores
+  pub some_island : 1 ≤ islands
+  pub few_islands : islands ≤ most_islands
+  pub some_core : 1 ≤ cores
+  pub few_cores : cores ≤ most_cores
 
 -- refused by 9: "plan buffer shorter than n, or level buffer shorter than V"
-pub record RoomEnough (islands n planRoom levelRoom : ℕ) : Type 0 where
-  pub plan-room : n ≤ planRoom
-  pub level-room : islands ≤ levelRoom
+pub record RoomEnough (islands n plan_length level_length : ℕ) : Type 0 where
+  pub plan_room : n ≤ plan_length
+  pub level_room : islands ≤ level_length
 
 -- 1
-abbrev pub sizeConditions : (islands cores : ℕ) → List Condition
-sizeConditions islands cores = record { number = 1; holds = FitSizes islands cores } ∷ []
+abbrev pub size_conditions : (islands cores : ℕ) → List Condition
+size_conditions islands cores = record { number = 1; holds = FitSizes islands cores } ∷ []
 
 -- 2 to 4
-abbrev pub tableConditions : Table → List Condition
-tableConditions t =
+abbrev pub table_conditions : Table → List Condition
+table_conditions t =
     record { number = 2; holds = WellShaped t } ∷ record { number = 3; holds = WellRanged t } ∷ record { number = 4; holds = NotFalling t } ∷ []
 
 -- 5: "island power above 1000000000"
-abbrev pub powerConditions : ℕ → List Condition
-powerConditions power = record { number = 5; holds = power ≤ most-island-power } ∷ []
+abbrev pub power_conditions : ℕ → List Condition
+power_conditions power = record { number = 5; holds = power ≤ most_island_power } ∷ []
 
 -- 1 to 5
-abbrev pub boardConditions : (islands cores island-power : ℕ) (t : Table) → List Condition
-boardConditions islands cores island-power t = sizeConditions islands cores ++ (tableConditions t ++ powerConditions island-power)
+abbrev pub board_conditions : (islands cores island_power : ℕ) (t : Table) → List Condition
+board_conditions islands cores island_power t = size_conditions islands cores ++ (table_conditions t ++ power_conditions island_power)
 
 -- 6 to 8: "more loads than V·Q"; "a load below the one before it"; "the last load above the last frequency"
-abbrev pub loadConditions : (islands cores : ℕ) (frequencies loads : List ℕ) → List Condition
-loadConditions islands cores frequencies loads =
+abbrev pub load_conditions : (islands cores : ℕ) (frequencies loads : List ℕ) → List Condition
+load_conditions islands cores frequencies loads =
     record { number = 6; holds = length loads ≤ islands * cores }
     ∷ record { number = 7; holds = Ordered loads }
-    ∷ record { number = 8; holds = lastOf loads ≤ lastOf frequencies }
+    ∷ record { number = 8; holds = last_of loads ≤ last_of frequencies }
     ∷ []
 
 -- 9
-abbrev pub roomConditions : (islands n planRoom levelRoom : ℕ) → List Condition
-roomConditions islands n planRoom levelRoom = record { number = 9; holds = RoomEnough islands n planRoom levelRoom } ∷ []
+abbrev pub room_conditions : (islands n plan_length level_length : ℕ) → List Condition
+room_conditions islands n plan_length level_length = record { number = 9; holds = RoomEnough islands n plan_length level_length } ∷ []
 
 -- 1 to 8, in 01's order
-abbrev pub jobConditions : Job → List Condition
-jobConditions job =
-    boardConditions (job .islands) (job .cores) (job .island-power) (job .table)
-    ++ loadConditions (job .islands) (job .cores) (job .table .frequencies) (job .loads)
+abbrev pub job_conditions : Job → List Condition
+job_conditions job =
+    board_conditions job.islands job.cores job.island_power job.table
+    ++ load_conditions job.islands job.cores job.table.frequencies job.loads
 
 -- all nine
-abbrev pub conditions : (job : Job) (planRoom levelRoom : ℕ) → List Condition
-conditions job planRoom levelRoom = jobConditions job ++ roomConditions (job .islands) (length (job .loads)) planRoom levelRoom
+abbrev pub conditions : (job : Job) (plan_length level_length : ℕ) → List Condition
+conditions job plan_length level_length = job_conditions job ++ room_conditions job.islands (length job.loads) plan_length level_length
 
 -- the table's numbers, for the enum
-abbrev pub causeNumber : Refusal → ℕ
-causeNumber Sizes = 1
-causeNumber Levels = 2
-causeNumber Ranges = 3
-causeNumber Slopes = 4
-causeNumber IslandPower = 5
-causeNumber Count = 6
-causeNumber Order = 7
-causeNumber Speed = 8
-causeNumber Buffers = 9
+abbrev pub cause_number : Refusal → ℕ
+cause_number Sizes = 1
+cause_number Levels = 2
+cause_number Ranges = 3
+cause_number Slopes = 4
+cause_number IslandPower = 5
+cause_number Count = 6
+cause_number Order = 7
+cause_number Speed = 8
+cause_number Buffers = 9
 
 -- 0 where nothing is refused, else the number of the cause
-abbrev pub judgedNumber : Judged → ℕ
-judgedNumber Sound = 0
-judgedNumber (Refused cause) = causeNumber cause
+abbrev pub judged_number : Judged → ℕ
+judged_number Sound = 0
+judged_number (Refused cause) = cause_number cause

@@ -7,24 +7,20 @@
 --     ByRule       taken, and every gap by the same rule by itself
 -- A run is given by three numbers: `before` positions stand below it, `base` islands have lower numbers, and it has v islands, so
 -- that it holds the v · Q positions from before + 1 on and its islands are base + 1 to base + v. Assumes nothing.
-use Prim.Native.Nat.{ℕ, _+_, _-_, _/_, _≤_, _<_}
-use mathlib.Core.Path.{_≡_}
-use mathlib.Core.Logic.{_⊎_}
-use mathlib.Core.List.{List, [], _∷_, _++_}
-use lib.ListN.{length, getD, drop}
-use Rattle·model·specs.specs.Power.{power}
-use Rattle·model·specs.specs.Plan.{Full, Numbered, members, count}
-use Rattle·model·specs.specs.Crossing.{NoCrossing}
+use Rattle.std.specs.Prelude.{ℕ, ◌+◌, ◌-◌, ◌/◌, ◌≤◌, ◌<◌, ◌≡◌, ◌⊎◌, List, [], ◌∷◌, ◌++◌, length, get_or, drop}
+use Rattle.model.specs.Power.{power}
+use Rattle.model.specs.Plan.{Full, Numbered, members, count}
+use Rattle.model.specs.Crossing.{NoCrossing}
 
 -- the plans among which the rule chooses
 pub record Uncrossed (Q base v : ℕ) (plan : List ℕ) : Type 0 where
   pub full : Full Q base v plan
   pub numbered : Numbered base v plan
-  pub no-crossing : NoCrossing plan
+  pub no_crossing : NoCrossing plan
 
 -- "greater at the first difference": as far as the two agree, the next entry of the first is at least that of the second
 abbrev pub Leads : List ℕ → List ℕ → Type 0
-Leads l m = (j : ℕ) → ((k : ℕ) → k < j → getD l k 0 ≡ getD m k 0) → getD m j 0 ≤ getD l j 0
+Leads l m = (j : ℕ) → ((k : ℕ) → k < j → get_or l k 0 ≡ get_or m k 0) → get_or m j 0 ≤ get_or l j 0
 
 -- "The stretches between the members, and before the first, are gaps": c ends at a member x and begins behind one, or at the run's
 -- first position

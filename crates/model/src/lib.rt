@@ -1,10 +1,14 @@
-// The three enums in which an answer is given. What they mean stands in specs/: `causeNumber`, `judgedNumber` and `numberOf` give the
-// number of every case, `totalOf` the total. The one function here gives a cause's number to those who hand it on. Assumes nothing.
+// The three enums in which an answer is given. What they mean stands in specs/: `cause_number`, `judged_number` and `number_of` give the
+// number of every case, `total_of` the total. The one function here gives a cause's number to those who hand it on. Assumes nothing.
+#![tactic(auto)]
+
+ghost use Rattle.std.specs.Prelude.{◌≡◌};
+ghost use Rattle.model.specs.Refusals.{cause_number};
+
 use units::Picowatts;
-ghost use mathlib.Core.Path.{_≡_};
-ghost use Rattle·model·specs.specs.Refusals.{causeNumber};
 
 // The nine causes for which a job is refused, in the order in which they are tried; the first has number 1.
+#[derive(Clone, Copy)]
 pub enum Refusal {
     Sizes,
     Levels,
@@ -18,12 +22,14 @@ pub enum Refusal {
 }
 
 // What judging says: of a table, of a list of loads, of a job.
+#[derive(Clone, Copy)]
 pub enum Judged {
     Sound,
     Refused(Refusal),
 }
 
 // What the planner says of a job.
+#[derive(Clone, Copy)]
 pub enum Planned {
     Total(Picowatts),
     Refused(Refusal),
@@ -31,7 +37,7 @@ pub enum Planned {
 
 // The number of a cause.
 pub fn number(refusal: Refusal) -> u32
-    ensures { λ r. ⌜ r ≡ causeNumber refusal ⌝ }
+    ensures { result ≡ cause_number refusal }
 {
     match refusal {
         Refusal::Sizes => 1,

@@ -1,74 +1,50 @@
--- The lower bound over the model's full plans, crossing ones too.
---     power-front     loads behind the plan's positions draw nothing
---     fair-bound      no fair assignment of a run's loads draws less than the run's best
---     best-bound      no full plan of a run does
+-- The lower bound over fair assignments of a run's loads, crossing ones too.
+--     power_front     loads behind the plan's positions draw nothing
+--     fair_bound      no fair assignment of a run's loads draws less than the run's best
 -- Assumes nothing.
-use Prim.Native.Nat.{ℕ, _+_, _*_, _≤_, _<_}
-use mathlib.Core.Path.{_≡_, refl, sym, ap, _∙_}
-use mathlib.Core.Logic.{inl, inr}
-use mathlib.Core.List.{List, [], _++_, append-nil}
-use native.Mathlib.Nat.{one-mul, zero-mul, le-trans, le-of-eq}
+use Prim.Native.Nat.{ℕ, ◌+◌, ◌*◌, ◌≤◌, ◌<◌}
+use mathlib.Core.Path.{◌≡◌, refl, sym, ap, ◌∙◌}
+use mathlib.Core.List.{List, [], ◌++◌, append-nil}
 use native.Mathlib.Omega.{arith}
 use lib.ListN.{length}
-use Rattle·model.specs.Plan.{count, Full}
-use Rattle·model.specs.Power.{held, heaviest, sum, drawn, power}
-use Rattle·optimum·specs.specs.Loads.{AtMost, Sorted, NeverFalls, At}
-use Rattle·optimum·specs.specs.Best.{itself, best}
-use Rattle·optimum·specs.specs.Fair.{Fair, over}
-use Rattle·optimum·proofs.proofs.Held.{held-append, drawn-is}
-use Rattle·optimum·proofs.proofs.Spread.{islands, weighed, each-over, islands-once, islands-length, over-same, over-sum, spread}
-use Rattle·optimum·proofs.proofs.NamedPlans.{in-or-out, islands-outside, named-outside, full-length, power-same}
-use Rattle·optimum·proofs.proofs.BestSplit.{best-below}
-use Rattle·optimum·proofs.proofs.LowerBound.{fair-full, fair-named, lower-bound}
+use Rattle.model.specs.Plan.{count}
+use Rattle.model.specs.Power.{held, heaviest, sum, drawn, power}
+use Rattle.optimum.specs.Loads.{AtMost, Sorted, NeverFalls, At}
+use Rattle.optimum.specs.Best.{itself, best}
+use Rattle.optimum.specs.Fair.{Fair, over}
+use Rattle.optimum.proofs.Held.{held_append, drawn_is}
+use Rattle.optimum.proofs.Spread.{weighed, over_same, over_sum, spread}
+use Rattle.optimum.proofs.NamedPlans.{power_same}
+use Rattle.optimum.proofs.BestSplit.{best_below}
+use Rattle.optimum.proofs.LowerBound.{fair_full, fair_named, lower_bound}
 
-full-fair : (Q base v : ℕ) (plan : List ℕ) → Full Q base v plan → Fair Q (islands base v) plan
-full-fair Q base v plan full = record { once = once; filled = filled }
-  where
-    once : (z : ℕ) → count z (islands base v) ≤ 1
-    once z =
-        elim (in-or-out base v z) [
-          | inl within ↦ le-of-eq (islands-once base v z (within .0) (within .1))
-          | inr out ↦ omega (arith, islands-outside base v z out)
-        ]
-
-    filled : (z : ℕ) → count z plan ≡ count z (islands base v) * Q
-    filled z =
-        elim (in-or-out base v z) [
-          | inl within ↦
-              full .filled z (within .0) (within .1)
-              ∙ sym (ap (λ (n : ℕ). n * Q) (islands-once base v z (within .0) (within .1)) ∙ one-mul Q)
-          | inr out ↦
-              named-outside base v plan (full .named) z out
-              ∙ sym (ap (λ (n : ℕ). n * Q) (islands-outside base v z out) ∙ zero-mul Q)
-        ]
-
-drawn-spread :
+drawn_spread :
     (own : ℕ) (rate : ℕ → ℕ) (zs plan us : List ℕ)
     → ((z : ℕ) → 0 < count z plan → count z zs ≡ 1)
     → over (λ z. drawn own rate (held z plan us)) zs
     ≡ over (λ z. itself own (heaviest (held z plan us))) zs + weighed (λ z. rate (heaviest (held z plan us))) plan us
-drawn-spread own rate zs plan us once =
+drawn_spread own rate zs plan us once =
     let top : ℕ → ℕ = λ z. heaviest (held z plan us) in
-    over-same (λ z. drawn own rate (held z plan us)) (λ z. itself own (top z) + rate (top z) * sum (held z plan us)) zs
-    (λ z some. drawn-is own rate (held z plan us))
-    ∙ over-sum (λ z. itself own (top z)) (λ z. rate (top z) * sum (held z plan us)) zs
+    over_same (λ z. drawn own rate (held z plan us)) (λ z. itself own (top z) + rate (top z) * sum (held z plan us)) zs
+    (λ z some. drawn_is own rate (held z plan us))
+    ∙ over_sum (λ z. itself own (top z)) (λ z. rate (top z) * sum (held z plan us)) zs
     ∙ ap (λ (n : ℕ). over (λ z. itself own (top z)) zs + n) (spread (λ z. rate (top z)) zs plan us once)
 
 module _ (own : ℕ) (rate : ℕ → ℕ) (base v : ℕ) (plan us : List ℕ) where
-  pub power-front :
+  pub power_front :
       (vs : List ℕ) → length plan ≡ length us → power own rate base v plan (us ++ vs) ≡ power own rate base v plan us
   unfolding held
-  power-front vs len =
-      power-same own rate base v plan (us ++ vs) plan us
+  power_front vs len =
+      power_same own rate base v plan (us ++ vs) plan us
       (λ z low high.
       ap (λ (l : List ℕ). drawn own rate l)
       (ap (λ (l : List ℕ). held z l (us ++ vs)) (sym (append-nil plan))
-      ∙ held-append z plan [] us vs len
+      ∙ held_append z plan [] us vs len
       ∙ append-nil (held z plan us)))
 
 -- loads that come lightest first, none above the limit, up to which the charge never falls
 module _ (Q own : ℕ) (rate : ℕ → ℕ) (ws : List ℕ) (limit : ℕ) (pos : 0 < Q) (rises : NeverFalls rate limit) where
-  pub fair-bound :
+  pub fair_bound :
       (i v : ℕ) (zs plan us : List ℕ)
       → length zs ≡ v
       → Fair Q zs plan
@@ -77,28 +53,13 @@ module _ (Q own : ℕ) (rate : ℕ → ℕ) (ws : List ℕ) (limit : ℕ) (pos :
       → AtMost limit us
       → At ws i us
       → best Q own rate ws i v ≤ over (λ z. drawn own rate (held z plan us)) zs
-  fair-bound i v zs plan us size fair len sorted most at =
+  fair_bound i v zs plan us size fair len sorted most at =
       let found =
-      lower-bound Q own rate limit pos rises v (λ z. heaviest (held z plan us)) zs plan us size fair len sorted most
+      lower_bound Q own rate limit pos rises v (λ z. heaviest (held z plan us)) zs plan us size fair len sorted most
       (λ z some. refl) in
       omega (
         arith,
-        best-below Q own rate ws (found .1) i at,
-        found .2,
-        drawn-spread own rate zs plan us (λ z some. fair-full Q zs plan fair z (fair-named Q zs plan fair z some) .0),
+        best_below Q own rate ws found.1 i at,
+        found.2,
+        drawn_spread own rate zs plan us (λ z some. (fair_full Q zs plan fair z (fair_named Q zs plan fair z some)).0),
       )
-
-  pub best-bound :
-      (i base v : ℕ) (plan us : List ℕ)
-      → Full Q base v plan
-      → length us ≡ v * Q
-      → Sorted us
-      → AtMost limit us
-      → At ws i us
-      → best Q own rate ws i v ≤ power own rate base v plan us
-  unfolding power
-  best-bound i base v plan us full len sorted most at =
-      le-trans
-      (fair-bound i v (islands base v) plan us (islands-length base v) (full-fair Q base v plan full)
-      (full-length Q base v plan full ∙ sym len) sorted most at)
-      (le-of-eq (sym (each-over (λ z. drawn own rate (held z plan us)) base v)))

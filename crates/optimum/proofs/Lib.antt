@@ -16,6 +16,7 @@ pub mod BestSplit
 pub mod Gather
 pub mod LowerBound
 pub mod FullBound
+pub mod RunBound
 -- run-shaped plans are the plans without a crossing
 pub mod Shapes
 pub mod Members
@@ -43,4 +44,5 @@ pub mod Tabled
 -- what is promised, and what is concluded from it
 pub mod Promises
 pub mod Examples
+pub mod Crossed
 pub mod LeastSplit

@@ -1,30 +1,30 @@
 -- The lower bound: every fair assignment of sorted loads costs at least as much as some split of them.
---     fair-full, fair-named    an island of the list has Q positions, and one that has any is of the list
---     lower-bound    over any list of islands, each with a figure that is the heaviest load on it
+--     fair_full, fair_named    an island of the list has Q positions, and one that has any is of the list
+--     lower_bound    over any list of islands, each with a figure that is the heaviest load on it
 -- The first island to hold its Q-th position is gathered, its positions are taken out, and put back into a split of the rest.
 -- Assumes nothing.
-use Prim.Native.Nat.{ℕ, zero, suc, _+_, _*_, max, _≤_, _<_, zero-le}
-use mathlib.Core.Path.{_≡_, refl, sym, ap, _∙_, subst}
-use mathlib.Core.List.{List, [], _∷_, _++_, append-assoc, append-nil}
-use native.Mathlib.Nat.{add-zero, one-mul, not-suc-le-zero, suc-ne-zero, le-of-eq, le-trans}
-use native.Mathlib.Nat.{lt-of-lt-of-le, zero-lt-suc, max-zero, min-eq-left}
-use native.Mathlib.Decide.{ℕ-discrete, decLt}
+use Prim.Native.Nat.{ℕ, zero, suc, ◌+◌, ◌*◌, max, ◌≤◌, ◌<◌, zero-le}
+use mathlib.Core.Path.{◌≡◌, refl, sym, ap, ◌∙◌, subst}
+use mathlib.Core.List.{List, [], ◌∷◌, ◌++◌, append_assoc, append-nil}
+use native.Mathlib.Nat.{add-zero, one-mul, not-suc-le-zero, suc-ne-zero, le_of_eq, le_trans}
+use native.Mathlib.Nat.{lt_of_lt_of_le, zero-lt-suc, max-zero, min-eq_left}
+use native.Mathlib.Decide.{ℕ_discrete, dec_lt}
 use native.Mathlib.Omega.{arith}
 use lib.ListN.{length, take, drop, length-append, length-take, length-drop, take-append-drop}
-use Rattle·model.specs.Plan.{count}
-use Rattle·model.specs.Power.{held, heaviest, sum}
-use Rattle·model.specs.Ordered.{lastOf}
-use Rattle·optimum·specs.specs.Loads.{AtLeast, AtMost, Sorted, NeverFalls}
-use Rattle·optimum·specs.specs.Best.{itself}
-use Rattle·optimum·specs.specs.Split.{Split}
-use Rattle·optimum·specs.specs.Fair.{Fair, over}
-use Rattle·optimum·proofs.proofs.Counts.{count-same, count-append, single-same, single-other}
-use Rattle·optimum·proofs.proofs.Held.{held-append, held-absent, heaviest-append}
-use Rattle·optimum·proofs.proofs.Lists.{cut-at, cut-end, last-append}
-use Rattle·optimum·proofs.proofs.Spread.{weighed, weighed-append}
-use Rattle·optimum·proofs.proofs.Splits.{block, insertion}
-use Rattle·optimum·proofs.proofs.SortedLoads.{sorted-front, sorted-back, sorted-taken-out, most-taken-out, heaviest-at-least, heaviest-at-most, heaviest-later, top-heaviest}
-use Rattle·optimum·proofs.proofs.Gather.{without, count-without-same, count-without-other, length-without, over-without, gather}
+use Rattle.model.specs.Plan.{count}
+use Rattle.model.specs.Power.{held, heaviest, sum}
+use Rattle.model.specs.Ordered.{last_of}
+use Rattle.optimum.specs.Loads.{AtLeast, AtMost, Sorted, NeverFalls}
+use Rattle.optimum.specs.Best.{itself}
+use Rattle.optimum.specs.Split.{Split}
+use Rattle.optimum.specs.Fair.{Fair, over}
+use Rattle.optimum.proofs.Counts.{count_same, count_append, single_same, single_other}
+use Rattle.optimum.proofs.Held.{held_append, held_absent, heaviest_append}
+use Rattle.optimum.proofs.Lists.{cut_at, cut_end, last_append}
+use Rattle.optimum.proofs.Spread.{weighed, weighed_append}
+use Rattle.optimum.proofs.Splits.{block, insertion}
+use Rattle.optimum.proofs.SortedLoads.{sorted_front, sorted_back, sorted_taken_out, most_taken_out, heaviest_at_least, heaviest_at_most, heaviest_later, top_heaviest}
+use Rattle.optimum.proofs.Gather.{without, count_without_same, count_without_other, length_without, over_without, gather}
 
 -- the list up to the first place at which an island has Q positions: the island x, and what stands behind it
 record Reached (Q : ℕ) (plan : List ℕ) : Type 0 where
@@ -43,36 +43,36 @@ reached :
 unfolding count
 reached Q [] done y few full = absurd (omega (arith, few y, ap (λ (l : List ℕ). count y l) (append-nil done)))
 reached Q (x ∷ rest) done y few full =
-    let moved : done ++ (x ∷ rest) ≡ (done ++ (x ∷ [])) ++ rest = sym (append-assoc done (x ∷ []) rest) in
-    elim (ℕ-discrete (suc (count x done)) Q) [
+    let moved : done ++ (x ∷ rest) ≡ (done ++ (x ∷ [])) ++ rest = sym (append_assoc done (x ∷ []) rest) in
+    elim (ℕ_discrete (suc (count x done)) Q) [
       | yes e ↦ record { before = done; x = x; behind = rest; whole = moved; filled = e; others = few }
       | no n ↦
           subst (λ (l : List ℕ). Reached Q l) (sym moved)
           (reached Q rest (done ++ (x ∷ [])) y
           (λ z.
-          elim (ℕ-discrete x z) [
+          elim (ℕ_discrete x z) [
             | yes e ↦
                 omega
-                (arith, few z, count-append z done (x ∷ []), single-same x z e, ap (λ (k : ℕ). count k done) e)
-            | no f ↦ omega (arith, few z, count-append z done (x ∷ []), single-other x z f)
+                (arith, few z, count_append z done (x ∷ []), single_same x z e, ap (λ (k : ℕ). count k done) e)
+            | no f ↦ omega (arith, few z, count_append z done (x ∷ []), single_other x z f)
           ])
           (ap (λ (l : List ℕ). count y l) (sym moved) ∙ full))
     ]
 
 -- an island is counted 0 or Q times, by whether it is one of the list
 module _ (Q : ℕ) (zs plan : List ℕ) (fair : Fair Q zs plan) (z : ℕ) where
-  pub fair-full : 0 < count z zs → (count z zs ≡ 1) × (count z plan ≡ Q)
-  fair-full some =
-      let one : count z zs ≡ 1 = omega (arith, fair .once z) in
-      (one, fair .filled z ∙ ap (λ (n : ℕ). n * Q) one ∙ one-mul Q)
+  pub fair_full : 0 < count z zs → (count z zs ≡ 1) × (count z plan ≡ Q)
+  fair_full some =
+      let one : count z zs ≡ 1 = omega (arith, fair.once z) in
+      (one, fair.filled z ∙ ap (λ (n : ℕ). n * Q) one ∙ one-mul Q)
 
-  pub fair-named : 0 < count z plan → 0 < count z zs
-  fair-named some =
-      elim (decLt 0 (count z zs)) [
+  pub fair_named : 0 < count z plan → 0 < count z zs
+  fair_named some =
+      elim (dec_lt 0 (count z zs)) [
         | yes named ↦ named
         | no none ↦
-            let zero-times : count z zs * Q ≡ 0 * Q = ap (λ (n : ℕ). n * Q) (omega arith) in
-            absurd (omega (arith, fair .filled z))
+            let zero_times : count z zs * Q ≡ 0 * Q = ap (λ (n : ℕ). n * Q) (omega arith) in
+            absurd (omega (arith, fair.filled z))
       ]
 
 module _ (Q own : ℕ) (rate : ℕ → ℕ) (limit : ℕ) (pos : 0 < Q) (rises : NeverFalls rate limit) where
@@ -103,7 +103,7 @@ module _ (Q own : ℕ) (rate : ℕ → ℕ) (limit : ℕ) (pos : 0 < Q) (rises :
       (filled : suc (count x before) ≡ Q)
       (others : (z : ℕ) → count z before < Q)
       (len : length before ≡ length us)
-      (len′ : length behind ≡ length q)
+      (len' : length behind ≡ length q)
       (sorted : Sorted ((us ++ (u ∷ [])) ++ q))
       (most : AtMost limit ((us ++ (u ∷ [])) ++ q))
       (tops : Tops top zs ((before ++ (x ∷ [])) ++ behind) ((us ++ (u ∷ [])) ++ q)) where
@@ -114,68 +114,68 @@ module _ (Q own : ℕ) (rate : ℕ → ℕ) (limit : ℕ) (pos : 0 < Q) (rises :
     under : List ℕ
     under = us ++ (u ∷ [])
 
-    stretch-length : length stretch ≡ length under
+    stretch_length : length stretch ≡ length under
     unfolding stretch under
-    stretch-length = omega (arith, length-append before (x ∷ []), length-append us (u ∷ []))
+    stretch_length = omega (arith, length-append before (x ∷ []), length-append us (u ∷ []))
 
     counts : (z : ℕ) → count z (stretch ++ behind) ≡ count z stretch + count z behind
-    counts z = count-append z stretch behind
+    counts z = count_append z stretch behind
 
-    x-count : count x stretch ≡ Q
+    x_count : count x stretch ≡ Q
     unfolding stretch count
-    x-count = omega (arith, count-append x before (x ∷ []), single-same x x refl)
+    x_count = omega (arith, count_append x before (x ∷ []), single_same x x refl)
 
-    other-count : (z : ℕ) → ¬ (x ≡ z) → count z stretch ≡ count z before
+    other_count : (z : ℕ) → ¬ (x ≡ z) → count z stretch ≡ count z before
     unfolding stretch count
-    other-count z n = omega (arith, count-append z before (x ∷ []), single-other x z n)
+    other_count z n = omega (arith, count_append z before (x ∷ []), single_other x z n)
 
-    x-named : 0 < count x zs
+    x_named : 0 < count x zs
     unfolding stretch
-    x-named = fair-named Q zs (stretch ++ behind) fair x (omega (arith, counts x, x-count))
+    x_named = fair_named Q zs (stretch ++ behind) fair x (omega (arith, counts x, x_count))
 
-    x-gone : count x behind ≡ 0
+    x_gone : count x behind ≡ 0
     unfolding stretch
-    x-gone = omega (arith, counts x, x-count, fair-full Q zs (stretch ++ behind) fair x x-named .1)
+    x_gone = omega (arith, counts x, x_count, (fair_full Q zs (stretch ++ behind) fair x x_named).1)
 
     -- every other island still has positions behind
     still : (z : ℕ) → ¬ (x ≡ z) → 0 < count z zs → 0 < count z behind
     unfolding stretch
     still z n named =
-        omega (arith, counts z, other-count z n, others z, fair-full Q zs (stretch ++ behind) fair z named .1)
+        omega (arith, counts z, other_count z n, others z, (fair_full Q zs (stretch ++ behind) fair z named).1)
 
     -- x has its heaviest load at its last position
-    x-top : top x ≡ u
+    x_top : top x ≡ u
     unfolding stretch under held heaviest
-    x-top =
-        tops x x-named
-        ∙ ap (λ (l : List ℕ). heaviest l) (held-append x stretch behind under q stretch-length)
-        ∙ heaviest-append (held x stretch under) (held x behind q)
-        ∙ ap (λ (l : List ℕ). max (heaviest (held x stretch under)) (heaviest l)) (held-absent x behind q x-gone)
+    x_top =
+        tops x x_named
+        ∙ ap (λ (l : List ℕ). heaviest l) (held_append x stretch behind under q stretch_length)
+        ∙ heaviest_append (held x stretch under) (held x behind q)
+        ∙ ap (λ (l : List ℕ). max (heaviest (held x stretch under)) (heaviest l)) (held_absent x behind q x_gone)
         ∙ max-zero (heaviest (held x stretch under))
-        ∙ top-heaviest x before us u len (sorted-front under q sorted)
+        ∙ top_heaviest x before us u len (sorted_front under q sorted)
 
     -- and every other island has it behind x
-    later-top : (z : ℕ) → ¬ (x ≡ z) → 0 < count z zs → top z ≡ heaviest (held z behind q)
+    later_top : (z : ℕ) → ¬ (x ≡ z) → 0 < count z zs → top z ≡ heaviest (held z behind q)
     unfolding stretch under
-    later-top z n named =
-        tops z named ∙ heaviest-later z stretch behind under q stretch-length (le-of-eq len′) sorted (still z n named)
+    later_top z n named =
+        tops z named ∙ heaviest_later z stretch behind under q stretch_length (le_of_eq len') sorted (still z n named)
 
-    behind-heavier : AtLeast u q
+    behind_heavier : AtLeast u q
     unfolding under
-    behind-heavier =
-        sorted-back us (u ∷ q) (subst (λ (l : List ℕ). Sorted l) (append-assoc us (u ∷ []) q) sorted) .0
+    behind_heavier =
+        (sorted_back us (u ∷ q) (subst (λ (l : List ℕ). Sorted l) (append_assoc us (u ∷ []) q) sorted)).0
 
-    x-lightest : (z : ℕ) → 0 < count z stretch → rate (top x) ≤ rate (top z)
+    x_lightest : (z : ℕ) → 0 < count z stretch → rate (top x) ≤ rate (top z)
     unfolding stretch under
-    x-lightest z some =
-        elim (ℕ-discrete x z) [
-          | yes e ↦ le-of-eq (ap (λ (k : ℕ). rate (top k)) e)
+    x_lightest z some =
+        elim (ℕ_discrete x z) [
+          | yes e ↦ le_of_eq (ap (λ (k : ℕ). rate (top k)) e)
           | no n ↦
-              let named : 0 < count z zs = fair-named Q zs (stretch ++ behind) fair z (omega (arith, counts z)) in
+              let named : 0 < count z zs = fair_named Q zs (stretch ++ behind) fair z (omega (arith, counts z)) in
               let higher : u ≤ heaviest (held z behind q) =
-              heaviest-at-least u z behind q behind-heavier (still z n named) (le-of-eq len′) in
-              rises (top x) (top z) (omega (arith, x-top, later-top z n named))
-              (le-trans (le-of-eq (tops z named)) (heaviest-at-most limit z (stretch ++ behind) (under ++ q) most))
+              heaviest_at_least u z behind q behind_heavier (still z n named) (le_of_eq len') in
+              rises (top x) (top z) (omega (arith, x_top, later_top z n named))
+              (le_trans (le_of_eq (tops z named)) (heaviest_at_most limit z (stretch ++ behind) (under ++ q) most))
         ]
 
     -- the stretch without x over the lower loads, and the block of the Q upper ones
@@ -188,152 +188,152 @@ module _ (Q own : ℕ) (rate : ℕ → ℕ) (limit : ℕ) (pos : 0 < Q) (rises :
     upper : List ℕ
     upper = drop (length rest) under
 
-    rest-length : length stretch ≡ length rest + Q
+    rest_length : length stretch ≡ length rest + Q
     unfolding rest
-    rest-length = length-without x stretch ∙ ap (λ (k : ℕ). length (without x stretch) + k) x-count
+    rest_length = length_without x stretch ∙ ap (λ (k : ℕ). length (without x stretch) + k) x_count
 
-    lower-length : length rest ≡ length lower
+    lower_length : length rest ≡ length lower
     unfolding lower
-    lower-length =
-        sym (length-take (length rest) under ∙ min-eq-left (omega (arith, rest-length, stretch-length)))
+    lower_length =
+        sym (length-take (length rest) under ∙ min-eq_left (omega (arith, rest_length, stretch_length)))
 
-    upper-length : length upper ≡ Q
+    upper_length : length upper ≡ Q
     unfolding upper
-    upper-length = omega (arith, length-drop (length rest) under, rest-length, stretch-length)
+    upper_length = omega (arith, length-drop (length rest) under, rest_length, stretch_length)
 
-    under-parts : lower ++ upper ≡ under
+    under_parts : lower ++ upper ≡ under
     unfolding lower upper
-    under-parts = take-append-drop (length rest) under
+    under_parts = take-append-drop (length rest) under
 
-    loads-parts : under ++ q ≡ lower ++ (upper ++ q)
-    loads-parts = ap (λ (l : List ℕ). l ++ q) (sym under-parts) ∙ append-assoc lower upper q
+    loads_parts : under ++ q ≡ lower ++ (upper ++ q)
+    loads_parts = ap (λ (l : List ℕ). l ++ q) (sym under_parts) ∙ append_assoc lower upper q
 
-    upper-last : lastOf upper ≡ top x
+    upper_last : last_of upper ≡ top x
     unfolding under
-    upper-last =
-        sym (last-append lower upper (omega (arith, upper-length)))
-        ∙ ap (λ (l : List ℕ). lastOf l) under-parts
-        ∙ last-append us (u ∷ []) (zero-lt-suc 0)
-        ∙ sym x-top
+    upper_last =
+        sym (last_append lower upper (omega (arith, upper_length)))
+        ∙ ap (λ (l : List ℕ). last_of l) under_parts
+        ∙ last_append us (u ∷ []) (zero-lt-suc 0)
+        ∙ sym x_top
 
-    rest-fair : Fair Q (without x zs) (rest ++ behind)
+    rest_fair : Fair Q (without x zs) (rest ++ behind)
     unfolding stretch rest
-    rest-fair =
+    rest_fair =
         record {
           once = λ z.
-              elim (ℕ-discrete x z) [
+              elim (ℕ_discrete x z) [
                 | yes e ↦
-                    omega (arith, ap (λ (k : ℕ). count k (without x zs)) e, count-without-same x zs)
-                | no n ↦ le-trans (le-of-eq (count-without-other x z zs n)) (fair .once z)
+                    omega (arith, ap (λ (k : ℕ). count k (without x zs)) e, count_without_same x zs)
+                | no n ↦ le_trans (le_of_eq (count_without_other x z zs n)) (fair.once z)
               ];
           filled = λ z.
-              elim (ℕ-discrete x z) [
+              elim (ℕ_discrete x z) [
                 | yes e ↦
                     subst (λ (k : ℕ). count k (rest ++ behind) ≡ count k (without x zs) * Q) e
                     (omega (
                       arith,
-                      count-append x rest behind,
-                      count-without-same x stretch,
-                      x-gone,
-                      ap (λ (k : ℕ). k * Q) (count-without-same x zs),
+                      count_append x rest behind,
+                      count_without_same x stretch,
+                      x_gone,
+                      ap (λ (k : ℕ). k * Q) (count_without_same x zs),
                     ))
                 | no n ↦
                     omega (
                       arith,
-                      count-append z rest behind,
-                      count-without-other x z stretch n,
+                      count_append z rest behind,
+                      count_without_other x z stretch n,
                       counts z,
-                      fair .filled z,
-                      ap (λ (k : ℕ). k * Q) (count-without-other x z zs n),
+                      fair.filled z,
+                      ap (λ (k : ℕ). k * Q) (count_without_other x z zs n),
                     )
               ];
         }
 
-    rest-tops : Tops top (without x zs) (rest ++ behind) (lower ++ q)
+    rest_tops : Tops top (without x zs) (rest ++ behind) (lower ++ q)
     unfolding under
-    rest-tops z named =
-        elim (ℕ-discrete x z) [
-          | yes e ↦ absurd (omega (arith, ap (λ (k : ℕ). count k (without x zs)) e, count-without-same x zs))
+    rest_tops z named =
+        elim (ℕ_discrete x z) [
+          | yes e ↦ absurd (omega (arith, ap (λ (k : ℕ). count k (without x zs)) e, count_without_same x zs))
           | no n ↦
-              let had : 0 < count z zs = lt-of-lt-of-le named (le-of-eq (count-without-other x z zs n)) in
-              later-top z n had
-              ∙ sym (heaviest-later z rest behind lower q lower-length (le-of-eq len′)
-              (sorted-taken-out lower upper q (subst (λ (l : List ℕ). Sorted l) loads-parts sorted)) (still z n had))
+              let had : 0 < count z zs = lt_of_lt_of_le named (le_of_eq (count_without_other x z zs n)) in
+              later_top z n had
+              ∙ sym (heaviest_later z rest behind lower q lower_length (le_of_eq len')
+              (sorted_taken_out lower upper q (subst (λ (l : List ℕ). Sorted l) loads_parts sorted)) (still z n had))
         ]
 
     -- the block, put back into a split of the rest
-    put-back : SplitBelow v top (without x zs) (rest ++ behind) (lower ++ q) → SplitBelow (suc v) top zs (stretch ++ behind) (under ++ q)
+    put_back : SplitBelow v top (without x zs) (rest ++ behind) (lower ++ q) → SplitBelow (suc v) top zs (stretch ++ behind) (under ++ q)
     unfolding stretch under rest upper block weighed
-    put-back found =
+    put_back found =
         let weight : ℕ → ℕ = λ z. rate (top z) in
-        let itself-top : ℕ → ℕ = λ z. itself own (top z) in
-        let split : Split Q own rate (under ++ q) (suc v) (found .0 + block Q own rate upper) =
-        subst (λ (l : List ℕ). Split Q own rate l (suc v) (found .0 + block Q own rate upper)) (sym loads-parts)
-        (insertion Q own rate v (found .0) upper lower q pos upper-length (found .1)) in
-        let drawn-block : block Q own rate upper ≡ itself own (top x) + rate (top x) * sum upper =
-        ap (λ (t : ℕ). itself own t + rate t * sum upper) upper-last in
+        let itself_top : ℕ → ℕ = λ z. itself own (top z) in
+        let split : Split Q own rate (under ++ q) (suc v) (found.0 + block Q own rate upper) =
+        subst (λ (l : List ℕ). Split Q own rate l (suc v) (found.0 + block Q own rate upper)) (sym loads_parts)
+        (insertion Q own rate v found.0 upper lower q pos upper_length found.1) in
+        let drawn_block : block Q own rate upper ≡ itself own (top x) + rate (top x) * sum upper =
+        ap (λ (t : ℕ). itself own t + rate t * sum upper) upper_last in
         let gathered : weighed weight rest under + rate (top x) * sum upper ≤ weighed weight stretch under =
-        gather weight x stretch under (sorted-front under q sorted) stretch-length x-lightest in
+        gather weight x stretch under (sorted_front under q sorted) stretch_length x_lightest in
         let low : weighed weight rest under ≡ weighed weight rest lower =
         ap (λ (l : List ℕ). weighed weight l under) (sym (append-nil rest))
-        ∙ ap (λ (l : List ℕ). weighed weight (rest ++ []) l) (sym under-parts)
-        ∙ weighed-append weight rest [] lower upper lower-length
+        ∙ ap (λ (l : List ℕ). weighed weight (rest ++ []) l) (sym under_parts)
+        ∙ weighed_append weight rest [] lower upper lower_length
         ∙ add-zero (weighed weight rest lower) in (
-          found .0 + block Q own rate upper,
+          found.0 + block Q own rate upper,
           split,
           omega (
             arith,
-            found .2,
-            weighed-append weight rest behind lower q lower-length,
-            weighed-append weight stretch behind under q stretch-length,
-            over-without itself-top x zs (fair-full Q zs (stretch ++ behind) fair x x-named .0),
+            found.2,
+            weighed_append weight rest behind lower q lower_length,
+            weighed_append weight stretch behind under q stretch_length,
+            over_without itself_top x zs (fair_full Q zs (stretch ++ behind) fair x x_named).0,
           ),
         )
 
     -- the same of the rest gives it of the whole
-    one-more :
+    one_more :
         length zs ≡ suc v
-        → ((zs′ plan ws : List ℕ) → Claim v top zs′ plan ws)
+        → ((zs' plan ws : List ℕ) → Claim v top zs' plan ws)
         → SplitBelow (suc v) top zs (stretch ++ behind) (under ++ q)
     unfolding under stretch
-    one-more some smaller =
-        let named : count x zs ≡ 1 = fair-full Q zs (stretch ++ behind) fair x x-named .0 in
-        let sorted′ : Sorted (lower ++ (upper ++ q)) = subst (λ (l : List ℕ). Sorted l) loads-parts sorted in
-        let most′ : AtMost limit (lower ++ (upper ++ q)) = subst (λ (l : List ℕ). AtMost limit l) loads-parts most in
-        put-back
-        (smaller (without x zs) (rest ++ behind) (lower ++ q) (omega (arith, length-without x zs)) rest-fair
-        (omega (arith, length-append rest behind, length-append lower q, lower-length)) (sorted-taken-out lower upper q sorted′)
-        (most-taken-out limit lower upper q most′) rest-tops)
+    one_more some smaller =
+        let named : count x zs ≡ 1 = (fair_full Q zs (stretch ++ behind) fair x x_named).0 in
+        let sorted' : Sorted (lower ++ (upper ++ q)) = subst (λ (l : List ℕ). Sorted l) loads_parts sorted in
+        let most' : AtMost limit (lower ++ (upper ++ q)) = subst (λ (l : List ℕ). AtMost limit l) loads_parts most in
+        put_back
+        (smaller (without x zs) (rest ++ behind) (lower ++ q) (omega (arith, length_without x zs)) rest_fair
+        (omega (arith, length-append rest behind, length-append lower q, lower_length)) (sorted_taken_out lower upper q sorted')
+        (most_taken_out limit lower upper q most') rest_tops)
 
   -- with the list and the loads cut where the first island is full
-  cut-claim :
+  cut_claim :
       (v : ℕ) (top : ℕ → ℕ) (zs plan ws : List ℕ)
       → Reached Q plan
-      → ((zs′ plan′ ws′ : List ℕ) → Claim v top zs′ plan′ ws′)
+      → ((zs' plan' ws' : List ℕ) → Claim v top zs' plan' ws')
       → Claim (suc v) top zs plan ws
   unfolding stretch under
-  cut-claim v top zs plan ws at smaller some fair len sorted most tops =
-      let stretch′ = at .before ++ (at .x ∷ []) in
-      let loads = cut-at stretch′ (at .behind) ws (ap (λ (l : List ℕ). length l) (sym (at .whole)) ∙ len) in
-      let ends = cut-end (at .before) (at .x) (loads .0) (loads .3) in
-      let here : Claim (suc v) top zs (stretch′ ++ at .behind) ((ends .0 ++ (ends .1 ∷ [])) ++ loads .1) =
-      λ some′ fair′ len′ sorted′ most′ tops′.
-      one-more v top zs (at .before) (at .behind) (ends .0) (loads .1) (at .x) (ends .1) fair′ (at .filled) (at .others)
-      (ends .3) (loads .4) sorted′ most′ tops′ some′ smaller in
-      subst (λ (l : List ℕ). Claim (suc v) top zs l ws) (sym (at .whole))
-      (subst (λ (l : List ℕ). Claim (suc v) top zs (stretch′ ++ at .behind) l)
-      (sym (loads .2 ∙ ap (λ (l : List ℕ). l ++ loads .1) (ends .2))) here)
+  cut_claim v top zs plan ws at smaller some fair len sorted most tops =
+      let stretch' = at.before ++ (at.x ∷ []) in
+      let loads = cut_at stretch' at.behind ws (ap (λ (l : List ℕ). length l) (sym at.whole) ∙ len) in
+      let ends = cut_end at.before at.x loads.0 loads.3 in
+      let here : Claim (suc v) top zs (stretch' ++ at.behind) ((ends.0 ++ (ends.1 ∷ [])) ++ loads.1) =
+      λ some' fair' len' sorted' most' tops'.
+      one_more v top zs at.before at.behind ends.0 loads.1 at.x ends.1 fair' at.filled at.others
+      ends.3 loads.4 sorted' most' tops' some' smaller in
+      subst (λ (l : List ℕ). Claim (suc v) top zs l ws) (sym at.whole)
+      (subst (λ (l : List ℕ). Claim (suc v) top zs (stretch' ++ at.behind) l)
+      (sym (loads.2 ∙ ap (λ (l : List ℕ). l ++ loads.1) ends.2)) here)
       some fair len sorted most tops
 
-  pub lower-bound : (v : ℕ) (top : ℕ → ℕ) (zs plan ws : List ℕ) → Claim v top zs plan ws
+  pub lower_bound : (v : ℕ) (top : ℕ → ℕ) (zs plan ws : List ℕ) → Claim v top zs plan ws
   unfolding count stretch under
-  lower-bound zero top [] [] [] none fair len sorted most tops = (0, Split.empty refl refl refl, zero-le)
-  lower-bound zero top [] [] (w ∷ ws) none fair len sorted most tops = absurd (suc-ne-zero _ (sym len))
-  lower-bound zero top [] (y ∷ plan) ws none fair len sorted most tops =
-      absurd (not-suc-le-zero (fair-named Q [] (y ∷ plan) fair y (omega (arith, count-same y y plan refl))))
-  lower-bound zero top (z ∷ zs) plan ws none fair len sorted most tops = absurd (suc-ne-zero _ none)
-  lower-bound (suc v) top [] plan ws some fair len sorted most tops = absurd (suc-ne-zero _ (sym some))
-  lower-bound (suc v) top (y ∷ zs) plan ws some fair len sorted most tops =
-      cut-claim v top (y ∷ zs) plan ws
-      (reached Q plan [] y (λ z. pos) (fair-full Q (y ∷ zs) plan fair y (omega (arith, count-same y y zs refl)) .1))
-      (lower-bound v top) some fair len sorted most tops
+  lower_bound zero top [] [] [] none fair len sorted most tops = (0, Split.empty refl refl refl, zero-le)
+  lower_bound zero top [] [] (w ∷ ws) none fair len sorted most tops = absurd (suc-ne-zero _ (sym len))
+  lower_bound zero top [] (y ∷ plan) ws none fair len sorted most tops =
+      absurd (not-suc-le-zero (fair_named Q [] (y ∷ plan) fair y (omega (arith, count_same y y plan refl))))
+  lower_bound zero top (z ∷ zs) plan ws none fair len sorted most tops = absurd (suc-ne-zero _ none)
+  lower_bound (suc v) top [] plan ws some fair len sorted most tops = absurd (suc-ne-zero _ (sym some))
+  lower_bound (suc v) top (y ∷ zs) plan ws some fair len sorted most tops =
+      cut_claim v top (y ∷ zs) plan ws
+      (reached Q plan [] y (λ z. pos) (fair_full Q (y ∷ zs) plan fair y (omega (arith, count_same y y zs refl))).1)
+      (lower_bound v top) some fair len sorted most tops

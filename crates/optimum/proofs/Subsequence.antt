@@ -1,132 +1,132 @@
 -- Entries that stand in a list in a given order, with others between them.
 --     Has                       such entries
---     has-rest                  without the first of the entries
---     has-left, has-right       in the first and in the second of two lists
---     has-join, has-cut         some in the one and the rest in the other, put together and taken apart
---     has-end                   the last of them stands in a list, or is the entry behind it
---     some-has, has-some        a list has what is counted in it, and counts what it has
---     has-placed, has-place     from places to entries in order, and back
+--     has_rest                  without the first of the entries
+--     has_left, has_right       in the first and in the second of two lists
+--     has_join, has_cut         some in the one and the rest in the other, put together and taken apart
+--     has_end                   the last of them stands in a list, or is the entry behind it
+--     some_has, has_some        a list has what is counted in it, and counts what it has
+--     has_placed, has_place     from places to entries in order, and back
 -- Assumes nothing.
-use Prim.Native.Nat.{ℕ, zero, suc, _≤_, _<_}
-use mathlib.Core.Path.{_≡_}
-use mathlib.Core.Logic.{_⊎_, inl, inr}
-use mathlib.Core.List.{List, [], _∷_, _++_}
+use Prim.Native.Nat.{ℕ, zero, suc, ◌≤◌, ◌<◌}
+use mathlib.Core.Path.{◌≡◌}
+use mathlib.Core.Logic.{◌⊎◌, inl, inr}
+use mathlib.Core.List.{List, [], ◌∷◌, ◌++◌}
 use native.Mathlib.Nat.{not-suc-le-zero}
-use native.Mathlib.Decide.{ℕ-discrete}
+use native.Mathlib.Decide.{ℕ_discrete}
 use native.Mathlib.Omega.{arith}
-use lib.ListN.{length, getD, take, drop}
-use Rattle·model.specs.Plan.{count}
-use Rattle·optimum·proofs.proofs.Counts.{count-same, count-other, count-later}
+use lib.ListN.{length, get_or, take, drop}
+use Rattle.model.specs.Plan.{count}
+use Rattle.optimum.proofs.Counts.{count_same, count_other, count_later}
 
 abbrev pub Has : List ℕ → List ℕ → Type 0
 Has [] a = Unit {0}
 Has (s ∷ ss) [] = ⊥
 Has (s ∷ ss) (p ∷ a) = ((p ≡ s) × Has ss a) ⊎ Has (s ∷ ss) a
 
-has-later : (s : List ℕ) (p : ℕ) (a : List ℕ) → Has s a → Has s (p ∷ a)
-has-later [] p a h = tt
-has-later (x ∷ s) p a h = inr h
+has_later : (s : List ℕ) (p : ℕ) (a : List ℕ) → Has s a → Has s (p ∷ a)
+has_later [] p a h = tt
+has_later (x ∷ s) p a h = inr h
 
-pub has-rest : (x : ℕ) (s a : List ℕ) → Has (x ∷ s) a → Has s a
-has-rest x s [] h = absurd h
-has-rest x s (p ∷ a) (inl h) = has-later s p a (h .1)
-has-rest x s (p ∷ a) (inr h) = has-later s p a (has-rest x s a h)
+pub has_rest : (x : ℕ) (s a : List ℕ) → Has (x ∷ s) a → Has s a
+has_rest x s [] h = absurd h
+has_rest x s (p ∷ a) (inl h) = has_later s p a h.1
+has_rest x s (p ∷ a) (inr h) = has_later s p a (has_rest x s a h)
 
-pub has-left : (s a b : List ℕ) → Has s a → Has s (a ++ b)
-has-left [] a b h = tt
-has-left (x ∷ s) [] b h = absurd h
-has-left (x ∷ s) (p ∷ a) b (inl h) = inl (h .0, has-left s a b (h .1))
-has-left (x ∷ s) (p ∷ a) b (inr h) = inr (has-left (x ∷ s) a b h)
+pub has_left : (s a b : List ℕ) → Has s a → Has s (a ++ b)
+has_left [] a b h = tt
+has_left (x ∷ s) [] b h = absurd h
+has_left (x ∷ s) (p ∷ a) b (inl h) = inl (h.0, has_left s a b h.1)
+has_left (x ∷ s) (p ∷ a) b (inr h) = inr (has_left (x ∷ s) a b h)
 
-pub has-right : (s a b : List ℕ) → Has s b → Has s (a ++ b)
-has-right s [] b h = h
-has-right s (p ∷ a) b h = has-later s p (a ++ b) (has-right s a b h)
+pub has_right : (s a b : List ℕ) → Has s b → Has s (a ++ b)
+has_right s [] b h = h
+has_right s (p ∷ a) b h = has_later s p (a ++ b) (has_right s a b h)
 
-pub has-join : (s t a b : List ℕ) → Has s a → Has t b → Has (s ++ t) (a ++ b)
-has-join [] t a b h k = has-right t a b k
-has-join (x ∷ s) t [] b h k = absurd h
-has-join (x ∷ s) t (p ∷ a) b (inl h) k = inl (h .0, has-join s t a b (h .1) k)
-has-join (x ∷ s) t (p ∷ a) b (inr h) k = inr (has-join (x ∷ s) t a b h k)
+pub has_join : (s t a b : List ℕ) → Has s a → Has t b → Has (s ++ t) (a ++ b)
+has_join [] t a b h k = has_right t a b k
+has_join (x ∷ s) t [] b h k = absurd h
+has_join (x ∷ s) t (p ∷ a) b (inl h) k = inl (h.0, has_join s t a b h.1 k)
+has_join (x ∷ s) t (p ∷ a) b (inr h) k = inr (has_join (x ∷ s) t a b h k)
 
 -- entries of two lists: the first k in the one, the rest in the other
-pub has-cut : (s a b : List ℕ) → Has s (a ++ b) → (k : ℕ) × Has (take k s) a × Has (drop k s) b
-has-cut s [] b h = (0, tt, h)
-has-cut [] (p ∷ a) b h = (0, tt, tt)
-has-cut (x ∷ s) (p ∷ a) b (inl h) =
-    let rest = has-cut s a b (h .1) in
-    (suc (rest .0), inl (h .0, rest .1), rest .2)
-has-cut (x ∷ s) (p ∷ a) b (inr h) =
-    let rest = has-cut (x ∷ s) a b h in
-    (rest .0, has-later (take (rest .0) (x ∷ s)) p a (rest .1), rest .2)
+pub has_cut : (s a b : List ℕ) → Has s (a ++ b) → (k : ℕ) × Has (take k s) a × Has (drop k s) b
+has_cut s [] b h = (0, tt, h)
+has_cut [] (p ∷ a) b h = (0, tt, tt)
+has_cut (x ∷ s) (p ∷ a) b (inl h) =
+    let rest = has_cut s a b h.1 in
+    (suc rest.0, inl (h.0, rest.1), rest.2)
+has_cut (x ∷ s) (p ∷ a) b (inr h) =
+    let rest = has_cut (x ∷ s) a b h in
+    (rest.0, has_later (take rest.0 (x ∷ s)) p a rest.1, rest.2)
 
-has-nothing : (s : List ℕ) (q : ℕ) → ¬ (Has (s ++ (q ∷ [])) [])
-has-nothing [] q h = h
-has-nothing (y ∷ s) q h = h
+has_nothing : (s : List ℕ) (q : ℕ) → ¬ (Has (s ++ (q ∷ [])) [])
+has_nothing [] q h = h
+has_nothing (y ∷ s) q h = h
 
 -- the last entry stands in the list before, or is the one behind it
-pub has-end :
+pub has_end :
     (s : List ℕ) (q x : ℕ) (a : List ℕ)
     → Has (s ++ (q ∷ [])) (a ++ (x ∷ []))
     → Has (s ++ (q ∷ [])) a ⊎ (Has s a × (x ≡ q))
-has-end [] q x [] (inl h) = inr (tt, h .0)
-has-end [] q x [] (inr h) = absurd h
-has-end (y ∷ s) q x [] (inl h) = absurd (has-nothing s q (h .1))
-has-end (y ∷ s) q x [] (inr h) = absurd h
-has-end [] q x (p ∷ a) (inl h) = inl (inl (h .0, tt))
-has-end [] q x (p ∷ a) (inr h) =
-    elim (has-end [] q x a h) [
+has_end [] q x [] (inl h) = inr (tt, h.0)
+has_end [] q x [] (inr h) = absurd h
+has_end (y ∷ s) q x [] (inl h) = absurd (has_nothing s q h.1)
+has_end (y ∷ s) q x [] (inr h) = absurd h
+has_end [] q x (p ∷ a) (inl h) = inl (inl (h.0, tt))
+has_end [] q x (p ∷ a) (inr h) =
+    elim (has_end [] q x a h) [
       | inl k ↦ inl (inr k)
-      | inr k ↦ inr (tt, k .1)
+      | inr k ↦ inr (tt, k.1)
     ]
-has-end (y ∷ s) q x (p ∷ a) (inl h) =
-    elim (has-end s q x a (h .1)) [
-      | inl k ↦ inl (inl (h .0, k))
-      | inr k ↦ inr (inl (h .0, k .0), k .1)
+has_end (y ∷ s) q x (p ∷ a) (inl h) =
+    elim (has_end s q x a h.1) [
+      | inl k ↦ inl (inl (h.0, k))
+      | inr k ↦ inr (inl (h.0, k.0), k.1)
     ]
-has-end (y ∷ s) q x (p ∷ a) (inr h) =
-    elim (has-end (y ∷ s) q x a h) [
+has_end (y ∷ s) q x (p ∷ a) (inr h) =
+    elim (has_end (y ∷ s) q x a h) [
       | inl k ↦ inl (inr k)
-      | inr k ↦ inr (inr (k .0), k .1)
+      | inr k ↦ inr (inr k.0, k.1)
     ]
 
-pub some-has : (z : ℕ) (a : List ℕ) → 0 < count z a → Has (z ∷ []) a
+pub some_has : (z : ℕ) (a : List ℕ) → 0 < count z a → Has (z ∷ []) a
 unfolding count
-some-has z [] some = absurd (not-suc-le-zero some)
-some-has z (y ∷ a) some =
-    elim (ℕ-discrete y z) [
+some_has z [] some = absurd (not-suc-le-zero some)
+some_has z (y ∷ a) some =
+    elim (ℕ_discrete y z) [
       | yes e ↦ inl (e, tt)
-      | no n ↦ inr (some-has z a (omega (arith, count-other y z a n)))
+      | no n ↦ inr (some_has z a (omega (arith, count_other y z a n)))
     ]
 
-pub has-some : (z : ℕ) (s a : List ℕ) → Has (z ∷ s) a → 0 < count z a
-has-some z s [] h = absurd h
-has-some z s (p ∷ a) (inl h) = omega (arith, count-same p z a (h .0))
-has-some z s (p ∷ a) (inr h) = count-later p z a (has-some z s a h)
+pub has_some : (z : ℕ) (s a : List ℕ) → Has (z ∷ s) a → 0 < count z a
+has_some z s [] h = absurd h
+has_some z s (p ∷ a) (inl h) = omega (arith, count_same p z a h.0)
+has_some z s (p ∷ a) (inr h) = count_later p z a (has_some z s a h)
 
 -- from places to entries in order, and back
-pub has-placed :
+pub has_placed :
     (x : ℕ) (s a : List ℕ) (k j : ℕ)
     → k ≤ j
     → j < length a
-    → getD a j 0 ≡ x
+    → get_or a j 0 ≡ x
     → Has s (drop (suc j) a)
     → Has (x ∷ s) (drop k a)
-has-placed x s [] k j from within e h = absurd (not-suc-le-zero within)
-has-placed x s (p ∷ a) zero zero from within e h = inl (e, h)
-has-placed x s (p ∷ a) zero (suc j) from within e h = inr (has-placed x s a zero j (omega arith) (omega arith) e h)
-has-placed x s (p ∷ a) (suc k) zero from within e h = absurd (not-suc-le-zero from)
-has-placed x s (p ∷ a) (suc k) (suc j) from within e h = has-placed x s a k j (omega arith) (omega arith) e h
+has_placed x s [] k j from within e h = absurd (not-suc-le-zero within)
+has_placed x s (p ∷ a) zero zero from within e h = inl (e, h)
+has_placed x s (p ∷ a) zero (suc j) from within e h = inr (has_placed x s a zero j (omega arith) (omega arith) e h)
+has_placed x s (p ∷ a) (suc k) zero from within e h = absurd (not-suc-le-zero from)
+has_placed x s (p ∷ a) (suc k) (suc j) from within e h = has_placed x s a k j (omega arith) (omega arith) e h
 
-pub has-place :
+pub has_place :
     (x : ℕ) (s a : List ℕ) (k : ℕ)
     → Has (x ∷ s) (drop k a)
-    → (j : ℕ) × (k ≤ j) × (j < length a) × (getD a j 0 ≡ x) × Has s (drop (suc j) a)
-has-place x s [] zero h = absurd h
-has-place x s [] (suc k) h = absurd h
-has-place x s (p ∷ a) zero (inl h) = (0, omega arith, omega arith, h .0, h .1)
-has-place x s (p ∷ a) zero (inr h) =
-    let rest = has-place x s a zero h in
-    (suc (rest .0), omega arith, omega (arith, rest .2), rest .3, rest .4)
-has-place x s (p ∷ a) (suc k) h =
-    let rest = has-place x s a k h in
-    (suc (rest .0), omega (arith, rest .1), omega (arith, rest .2), rest .3, rest .4)
+    → (j : ℕ) × (k ≤ j) × (j < length a) × (get_or a j 0 ≡ x) × Has s (drop (suc j) a)
+has_place x s [] zero h = absurd h
+has_place x s [] (suc k) h = absurd h
+has_place x s (p ∷ a) zero (inl h) = (0, omega arith, omega arith, h.0, h.1)
+has_place x s (p ∷ a) zero (inr h) =
+    let rest = has_place x s a zero h in
+    (suc rest.0, omega arith, omega (arith, rest.2), rest.3, rest.4)
+has_place x s (p ∷ a) (suc k) h =
+    let rest = has_place x s a k h in
+    (suc rest.0, omega (arith, rest.1), omega (arith, rest.2), rest.3, rest.4)

@@ -2,10 +2,8 @@
 --     Fair    such an assignment of positions to the islands zs
 --     over    the sum of a figure over a list of islands
 -- Assumes nothing.
-use Prim.Native.Nat.{ℕ, _+_, _*_, _≤_}
-use mathlib.Core.Path.{_≡_}
-use mathlib.Core.List.{List, [], _∷_}
-use Rattle·model.specs.Plan.{count}
+use Rattle.std.specs.Prelude.{ℕ, ◌+◌, ◌*◌, ◌≤◌, ◌≡◌, List, [], ◌∷◌}
+use Rattle.model.specs.Plan.{count}
 
 pub record Fair (Q : ℕ) (zs plan : List ℕ) : Type 0 where
   pub once : (z : ℕ) → count z zs ≤ 1

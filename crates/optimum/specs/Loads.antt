@@ -5,10 +5,7 @@
 --     NeverFalls    a charge that never falls as the heaviest load grows, up to a limit
 --     At            loads that stand at a place of the list of all loads
 -- Assumes nothing.
-use Prim.Native.Nat.{ℕ, _≤_}
-use mathlib.Core.Path.{_≡_}
-use mathlib.Core.List.{List, [], _∷_, _++_}
-use lib.ListN.{drop}
+use Rattle.std.specs.Prelude.{ℕ, ◌≤◌, ◌≡◌, List, [], ◌∷◌, ◌++◌, drop}
 
 abbrev pub AtLeast : ℕ → List ℕ → Type 0
 AtLeast w [] = Unit {0}
@@ -25,7 +22,7 @@ Sorted (u ∷ us) = AtLeast u us × Sorted us
 
 -- the one law that the optimum asks of a table, an idle power or a rounding
 abbrev pub NeverFalls : (ℕ → ℕ) → ℕ → Type 0
-NeverFalls rate limit = (w w′ : ℕ) → w ≤ w′ → w′ ≤ limit → rate w ≤ rate w′
+NeverFalls rate limit = (w w' : ℕ) → w ≤ w' → w' ≤ limit → rate w ≤ rate w'
 
 -- behind the first i loads of ws stand those of us, and then others
 abbrev pub At : List ℕ → ℕ → List ℕ → Type 0

@@ -2,9 +2,7 @@
 --     Run     a run of v islands: empty, or a top island whose members have runs in the gaps below them
 --     Gaps    the lowest r + 1 members of the top island x, with m islands in the gaps below them
 -- The islands of a run are base + 1 to base + v; its top island has the highest number. Assumes nothing.
-use Prim.Native.Nat.{ℕ, suc, _+_}
-use mathlib.Core.Path.{_≡_}
-use mathlib.Core.List.{List, [], _∷_, _++_}
+use Rattle.std.specs.Prelude.{ℕ, suc, ◌+◌, ◌≡◌, List, [], ◌∷◌, ◌++◌}
 
 module _ (Q : ℕ) where
   mutual

@@ -2,11 +2,9 @@
 --     Split    a run of v islands over a list of loads, at a cost
 --     Fill     the lowest r + 1 members of an island with m islands in the gaps below them, each kHz of a member charged ρ
 -- Assumes nothing.
-use Prim.Native.Nat.{ℕ, suc, _+_, _*_}
-use mathlib.Core.Path.{_≡_}
-use mathlib.Core.List.{List, [], _∷_, _++_}
-use Rattle·model.specs.Ordered.{lastOf}
-use Rattle·optimum·specs.specs.Best.{itself}
+use Rattle.std.specs.Prelude.{ℕ, suc, ◌+◌, ◌*◌, ◌≡◌, List, [], ◌∷◌, ◌++◌}
+use Rattle.model.specs.Ordered.{last_of}
+use Rattle.optimum.specs.Best.{itself}
 
 module _ (Q own : ℕ) (rate : ℕ → ℕ) where
   mutual
@@ -17,8 +15,8 @@ module _ (Q own : ℕ) (rate : ℕ → ℕ) where
           {us : List ℕ} {v c : ℕ} (r m d : ℕ)
           → suc r ≡ Q
           → v ≡ suc m
-          → Fill (rate (lastOf us)) us r m d
-          → c ≡ itself own (lastOf us) + d
+          → Fill (rate (last_of us)) us r m d
+          → c ≡ itself own (last_of us) + d
           → Split us v c
 
     pub data Fill : ℕ → List ℕ → ℕ → ℕ → ℕ → Type 0 where

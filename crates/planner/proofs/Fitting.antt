@@ -1,120 +1,120 @@
 -- Every sum of the recurrence fits in 64 bits, for a run within the board.
---     still-sized    a table that keeps its length stays a whole table
---     below-member   what lies below a member ends within the board
---     row-fits       what a row of the recurrence has fits in 64 bits
---     run-most       the total of a run is no more than its islands may draw
---     run-fits       a run of the writer is one that the rows can be filled for
---     filled-low     rows that are those of the recurrence are low enough to be added up
---     gaps-fit       over such rows, whatever a gap gets costs less than 2 ^ 64
+--     still_sized    a table that keeps its length stays a whole table
+--     below_member   what lies below a member ends within the board
+--     row_fits       what a row of the recurrence has fits in 64 bits
+--     run_most       the total of a run is no more than its islands may draw
+--     run_fits       a run of the writer is one that the rows can be filled for
+--     filled_low     rows that are those of the recurrence are low enough to be added up
+--     gaps_fit       over such rows, whatever a gap gets costs less than 2 ^ 64
 -- Assumes nothing.
-use Prim.Native.Nat.{ℕ, suc, _+_, _-_, _*_, _≤_, _<_, _^_, zero-le}
-use mathlib.Core.Path.{_≡_, _∙_}
+use Prim.Native.Nat.{ℕ, suc, ◌+◌, ◌-◌, ◌*◌, ◌≤◌, ◌<◌, ◌^◌, zero-le}
+use mathlib.Core.Path.{◌≡◌, ◌∙◌}
 use mathlib.Core.Bool.{Bool, true, false, cond}
 use mathlib.Core.List.{List}
-use native.Mathlib.Nat.{le-refl, le-trans, sub-le, lt-of-le-of-lt, mul-le-mul, mul-le-mul-right}
+use native.Mathlib.Nat.{le_refl, le_trans, sub-le, lt_of_le_of_lt, mul-le-mul, mul-le-mul_right}
 use native.Mathlib.Omega.{arith}
 use lib.Dec.{ltb}
-use lib.ListN.{length, getD}
-use Rattle·model.specs.Limits.{most-cost, most-frequency, most-cores, most-islands}
-use Rattle·optimum.specs.Best.{itself, topLoad, fill, gapCost}
-use Rattle·optimum.proofs.Recurrence.{islands-parted}
-use Rattle·optimum.proofs.BestBound.{Capped, fill-most}
-use Rattle·planner·specs.specs.Kept.{bestAt, runCost}
-use Rattle·planner·specs.specs.Rows.{rowAt, Filling}
-use Rattle·planner·specs.specs.Bounds.{most-member, most-own, most-draw, AllBelow, Sized, Cheap, Bounded, RunFits}
-use Rattle·planner·specs.specs.Written.{Low}
+use lib.ListN.{length, get_or}
+use Rattle.model.specs.Limits.{most_cost, most_frequency, most_cores, most_islands}
+use Rattle.optimum.specs.Best.{itself, top_load, fill, gap_cost}
+use Rattle.optimum.proofs.Recurrence.{islands_parted}
+use Rattle.optimum.proofs.BestBound.{Capped, fill_most}
+use Rattle.planner.specs.Kept.{best_at, run_cost}
+use Rattle.planner.specs.Rows.{row_at, Filling}
+use Rattle.planner.specs.Bounds.{most_member, most_own, most_draw, AllBelow, Sized, Cheap, Bounded, RunFits}
+use Rattle.planner.specs.Written.{Low}
 
-pub still-sized : (Q : ℕ) (ws before bests : List ℕ) → length bests ≡ length before → Sized Q ws before → Sized Q ws bests
-still-sized Q ws before bests same sized =
+pub still_sized : (Q : ℕ) (ws before bests : List ℕ) → length bests ≡ length before → Sized Q ws before → Sized Q ws bests
+still_sized Q ws before bests same sized =
     record {
-      some-core = sized .some-core;
-      few-cores = sized .few-cores;
-      few-places = sized .few-places;
-      whole = same ∙ sized .whole;
-      light = sized .light;
+      some_core = sized.some_core;
+      few_cores = sized.few_cores;
+      few_places = sized.few_places;
+      whole = same ∙ sized.whole;
+      light = sized.light;
     }
 
 module _ (Q ρ i m : ℕ) (ws bests : List ℕ) (fits : RunFits Q ρ i m ws bests) where
   -- what a member is charged
-  member-most : (k : ℕ) → ρ * getD ws k 0 ≤ most-member
-  member-most k = mul-le-mul {n₂ = most-cost} {m₂ = most-frequency} (fits .charge) (fits .sized .light k)
+  member_most : (k : ℕ) → ρ * get_or ws k 0 ≤ most_member
+  member_most k = mul-le-mul {n₂ = most_cost} {m₂ = most_frequency} fits.charge (fits.sized.light k)
 
-  pub below-member : (r n : ℕ) → r < Q → n ≤ m → i + (n * Q + suc r) ≤ length ws
-  below-member r n lower few = omega (arith, mul-le-mul-right Q few, fits .within)
+  pub below_member : (r n : ℕ) → r < Q → n ≤ m → i + (n * Q + suc r) ≤ length ws
+  below_member r n lower few = omega (arith, mul-le-mul_right Q few, fits.within)
 
-  capped : (r n : ℕ) → r < Q → n ≤ m → Capped most-draw Q (bestAt Q bests) n (i + (n * Q + r))
+  capped : (r n : ℕ) → r < Q → n ≤ m → Capped most_draw Q (best_at Q bests) n (i + (n * Q + r))
   capped r n lower few j g bound inside =
-      fits .bounded j g (le-trans bound few) (omega (arith, below-member r n lower few))
+      fits.bounded j g (le_trans bound few) (omega (arith, below_member r n lower few))
 
   -- what a row of the recurrence has
-  row-most : (r n : ℕ) → r < Q → n ≤ m → fill Q ws (bestAt Q bests) ρ i r n ≤ n * most-draw + suc r * most-member
-  row-most r n lower few =
-      fill-most most-draw most-member Q ws (bestAt Q bests) ρ i member-most r n (capped r n lower few)
+  row_most : (r n : ℕ) → r < Q → n ≤ m → fill Q ws (best_at Q bests) ρ i r n ≤ n * most_draw + suc r * most_member
+  row_most r n lower few =
+      fill_most most_draw most_member Q ws (best_at Q bests) ρ i member_most r n (capped r n lower few)
 
-  pub row-fits : (r n : ℕ) → r < Q → n ≤ m → fill Q ws (bestAt Q bests) ρ i r n < 2 ^ 64
-  row-fits r n lower few =
-      lt-of-le-of-lt (row-most r n lower few) (omega (arith, fits .few, fits .sized .few-cores))
+  pub row_fits : (r n : ℕ) → r < Q → n ≤ m → fill Q ws (best_at Q bests) ρ i r n < 2 ^ 64
+  row_fits r n lower few =
+      lt_of_le_of_lt (row_most r n lower few) (omega (arith, fits.few, fits.sized.few_cores))
 
-  pub filled-low : (rows : List ℕ) (r : ℕ) → r < Q → Filling Q ws (bestAt Q bests) ρ i rows r m → Low rows r m
-  filled-low rows r lower filling s n low few = omega (arith, filling s n low few, row-most s n (omega arith) few)
+  pub filled_low : (rows : List ℕ) (r : ℕ) → r < Q → Filling Q ws (best_at Q bests) ρ i rows r m → Low rows r m
+  filled_low rows r lower filling s n low few = omega (arith, filling s n low few, row_most s n (omega arith) few)
 
-pub run-fits :
+pub run_fits :
     (Q : ℕ) (ws bests rates : List ℕ) (i v k : ℕ)
     → Sized Q ws bests
     → Cheap ws rates
     → Bounded Q ws bests v
     → 0 < v
-    → v ≤ most-islands
+    → v ≤ most_islands
     → i + v * Q ≤ length ws
-    → RunFits Q (getD rates k 0) i (v - 1) ws bests
-run-fits Q ws bests rates i v k sized cheap bounded some few inside =
-    let last : i + suc (v - 1) * Q ≤ length ws = omega (arith, islands-parted v 1 Q some) in
+    → RunFits Q (get_or rates k 0) i (v - 1) ws bests
+run_fits Q ws bests rates i v k sized cheap bounded some few inside =
+    let last : i + suc (v - 1) * Q ≤ length ws = omega (arith, islands_parted v 1 Q some) in
     record {
       sized = sized;
-      charge = cheap .cheap k;
+      charge = cheap.cheap k;
       few = omega arith;
       within = last;
-      bounded = λ j g h. bounded j g (le-trans h (sub-le v 1));
+      bounded = λ j g h. bounded j g (le_trans h (sub-le v 1));
     }
 
-pub gaps-fit :
+pub gaps_fit :
     (Q : ℕ) (ws bests rows : List ℕ) (i r m n : ℕ)
     → Bounded Q ws bests m
     → Low rows r m
     → n ≤ m
-    → m < most-islands
-    → r < most-cores
+    → m < most_islands
+    → r < most_cores
     → i + (n * Q + suc r) ≤ length ws
-    → AllBelow (2 ^ 64) n (gapCost Q (bestAt Q bests) (rowAt rows r) i r n)
-unfolding gapCost
-gaps-fit Q ws bests rows i r m n bounded low fewer few members within g h =
-    let parts = islands-parted n g Q h in
+    → AllBelow (2 ^ 64) n (gap_cost Q (best_at Q bests) (row_at rows r) i r n)
+unfolding gap_cost
+gaps_fit Q ws bests rows i r m n bounded low fewer few members within g h =
+    let parts = islands_parted n g Q h in
     omega (
       arith,
       bounded (i + ((n - g) * Q + suc r)) g (omega arith) (omega (arith, parts)),
-      low r (n - g) (le-refl r) (omega arith),
+      low r (n - g) (le_refl r) (omega arith),
     )
 
 -- "An inactive island draws nothing": never more than an active one by itself
-itself-most : (own t : ℕ) → itself own t ≤ own
+itself_most : (own t : ℕ) → itself own t ≤ own
 unfolding itself
-itself-most own t = go (ltb 0 t)
+itself_most own t = go (ltb 0 t)
   where
     go : (flag : Bool) → cond flag own 0 ≤ own
-    go true = le-refl own
+    go true = le_refl own
     go false = zero-le
 
-pub run-most :
+pub run_most :
     (Q own i m : ℕ) (ws rates bests : List ℕ)
-    → RunFits Q (getD rates (i + (m * Q + (Q - 1))) 0) i m ws bests
-    → own ≤ most-own
-    → runCost Q own ws rates (bestAt Q bests) i m ≤ suc m * most-draw
-unfolding runCost
-run-most Q own i m ws rates bests fits little =
+    → RunFits Q (get_or rates (i + (m * Q + (Q - 1))) 0) i m ws bests
+    → own ≤ most_own
+    → run_cost Q own ws rates (best_at Q bests) i m ≤ suc m * most_draw
+unfolding run_cost
+run_most Q own i m ws rates bests fits little =
     omega (
       arith,
-      itself-most own (topLoad Q ws i m),
-      row-most Q (getD rates (i + (m * Q + (Q - 1))) 0) i m ws bests fits (Q - 1) m (omega (arith, fits .sized .some-core)) (le-refl m),
-      fits .sized .few-cores,
-      fits .sized .some-core,
+      itself_most own (top_load Q ws i m),
+      row_most Q (get_or rates (i + (m * Q + (Q - 1))) 0) i m ws bests fits (Q - 1) m (omega (arith, fits.sized.some_core)) (le_refl m),
+      fits.sized.few_cores,
+      fits.sized.some_core,
     )

@@ -1,27 +1,27 @@
 -- What is handed back of a job that nothing refuses.
 --     leveled       level numbers that are copied to the beginning of a list
---     shown-plan    the part of the full plan that belongs to the job's own loads is what is shown
---     shown-indices   the same part of the levels of all positions has those of the loads
+--     shown_plan    the part of the full plan that belongs to the job's own loads is what is shown
+--     shown_indices   the same part of the levels of all positions has those of the loads
 --     ready         so both can be handed back
 -- Assumes nothing.
-use Prim.Native.Nat.{ℕ, _+_, _-_, _*_, _<_}
-use mathlib.Core.Path.{_≡_, sym, ap, _∙_, subst}
-use mathlib.Core.List.{List, _++_}
+use Prim.Native.Nat.{ℕ, ◌+◌, ◌-◌, ◌*◌, ◌<◌}
+use mathlib.Core.Path.{◌≡◌, sym, ap, ◌∙◌, subst}
+use mathlib.Core.List.{List, ◌++◌}
 use native.Mathlib.Omega.{arith}
-use lib.ListN.{length, getD, take, drop, replicate, length-replicate, length-append, length-drop}
-use lib.Seq.{take-at, drop-append-le, getD-drop, getD-append-add}
-use Rattle·model.specs.Limits.{most-levels}
-use Rattle·model.specs.Level.{levelOf}
-use Rattle·model.specs.Job.{Job}
-use Rattle·model.specs.Plan.{padding, padded, shown, Named}
-use Rattle·promises.specs.OfJob.{planOf}
-use Rattle·model.specs.Passed.{Passed}
-use Rattle·optimum.proofs.NamedPlans.{full-length}
-use Rattle·promises.proofs.Padding.{padded-length}
-use Rattle·promises.proofs.DemandTwo.{plan-uncrossed, plan-placement}
-use Rattle·planner·specs.specs.Positions.{Looked, Below, LevelNumbers}
-use Rattle·planner·specs.specs.Settled.{Leveled}
-use Rattle·planner·proofs.proofs.Laying.{below, padded-carried}
+use lib.ListN.{length, get_or, take, drop, replicate, length-replicate, length-append, length-drop}
+use lib.Seq.{take_at, drop-append-le, get_or-drop, get_or-append-add}
+use Rattle.model.specs.Limits.{most_levels}
+use Rattle.model.specs.Level.{level_of}
+use Rattle.model.specs.Job.{Job}
+use Rattle.model.specs.Plan.{padding, padded, shown, Named}
+use Rattle.promises.specs.OfJob.{plan_of}
+use Rattle.model.specs.Passed.{Passed}
+use Rattle.optimum.proofs.NamedPlans.{full_length}
+use Rattle.promises.proofs.Padding.{padded_length}
+use Rattle.promises.proofs.DemandTwo.{plan_uncrossed, plan_placement}
+use Rattle.planner.specs.Positions.{Looked, Below, LevelNumbers}
+use Rattle.planner.specs.Settled.{Leveled}
+use Rattle.planner.proofs.Laying.{below, padded_carried}
 
 -- a copy of the level bytes to the beginning of a list
 pub leveled :
@@ -38,68 +38,68 @@ leveled ws plan indices islands numbers lent before after right long same copied
     ∙ ap (λ (l : List ℕ). l ++ drop islands before) (right job loads (wide ∙ sym long) looked)
 
 -- the part of a local array that belongs to the job's own loads, when its front was lent and came back
-abbrev partOf : Job → List ℕ → List ℕ → List ℕ
-partOf job zeros xs =
-    let places = job .islands * job .cores in
-    let front = places - length (job .loads) in
+abbrev part_of : Job → List ℕ → List ℕ → List ℕ
+part_of job zeros xs =
+    let places = job.islands * job.cores in
+    let front = places - length job.loads in
     take (places - front) (drop front (xs ++ drop (places - 0) zeros))
 
 module _ (job : Job) (passed : Passed job) (zeros : List ℕ) where
-  part-end : (xs : List ℕ) → length xs ≡ job .islands * job .cores → partOf job zeros xs ≡ drop (padding job) xs
+  part_end : (xs : List ℕ) → length xs ≡ job.islands * job.cores → part_of job zeros xs ≡ drop (padding job) xs
   unfolding padding
-  part-end xs whole =
-      let places = job .islands * job .cores in
-      let front = places - length (job .loads) in
+  part_end xs whole =
+      let places = job.islands * job.cores in
+      let front = places - length job.loads in
       ap (λ (l : List ℕ). take (places - front) l) (drop-append-le front xs (drop (places - 0) zeros) (omega arith))
-      ∙ take-at (drop front xs) (drop (places - 0) zeros) (places - front) (omega (arith, length-drop front xs))
+      ∙ take_at (drop front xs) (drop (places - 0) zeros) (places - front) (omega (arith, length-drop front xs))
 
-  pub shown-plan : (full : List ℕ) → full ≡ planOf job → partOf job zeros full ≡ shown job (planOf job)
+  pub shown_plan : (full : List ℕ) → full ≡ plan_of job → part_of job zeros full ≡ shown job (plan_of job)
   unfolding shown
-  shown-plan full is =
-      let whole = full-length (job .cores) 0 (job .islands) (planOf job) (plan-uncrossed job passed .full) in
-      part-end full (ap (λ (l : List ℕ). length l) is ∙ whole) ∙ ap (λ (l : List ℕ). drop (padding job) l) is
+  shown_plan full is =
+      let whole = full_length job.cores 0 job.islands (plan_of job) (plan_uncrossed job passed).full in
+      part_end full (ap (λ (l : List ℕ). length l) is ∙ whole) ∙ ap (λ (l : List ℕ). drop (padding job) l) is
 
   module _
-      (indices : List ℕ) (whole : length indices ≡ job .islands * job .cores)
-      (looked : Looked (job .table) (padded job) indices) where
+      (indices : List ℕ) (whole : length indices ≡ job.islands * job.cores)
+      (looked : Looked job.table (padded job) indices) where
     -- the loads stand behind the padding
-    behind : Looked (job .table) (job .loads) (drop (padding job) indices)
+    behind : Looked job.table job.loads (drop (padding job) indices)
     unfolding padded
     behind k h =
         let front : List ℕ = replicate (padding job) 0 in
         let long : length front ≡ padding job = length-replicate (padding job) 0 in
-        getD-drop (padding job) indices k 0
-        ∙ looked (padding job + k) (omega (arith, length-append front (job .loads)))
-        ∙ ap (λ (w : ℕ). levelOf (job .table) w)
-        (ap (λ (n : ℕ). getD (padded job) (n + k) 0) (sym long) ∙ getD-append-add front (job .loads) k 0)
+        get_or-drop (padding job) indices k 0
+        ∙ looked (padding job + k) (omega (arith, length-append front job.loads))
+        ∙ ap (λ (w : ℕ). level_of job.table w)
+        (ap (λ (n : ℕ). get_or (padded job) (n + k) 0) (sym long) ∙ get_or-append-add front job.loads k 0)
 
     -- levels are counted from 0, so each is below the number of levels of a table
-    low : Below most-levels (drop (padding job) indices)
+    low : Below most_levels (drop (padding job) indices)
     low k h =
         let within : padding job + k < length indices = omega (arith, length-drop (padding job) indices) in
-        let as-long = whole ∙ sym (padded-length job (passed .few)) in
-        let level = below (job .table) (padded job) indices as-long looked (padded-carried job passed) (padding job + k) within in
-        rw getD-drop (omega (arith, passed .well .shaped .few-levels))
+        let as_long = whole ∙ sym (padded_length job passed.few) in
+        let level = below job.table (padded job) indices as_long looked (padded_carried job passed) (padding job + k) within in
+        rw get_or-drop (omega (arith, passed.well.shaped.few_levels))
 
-    pub shown-indices : Looked (job .table) (job .loads) (partOf job zeros indices)
-    shown-indices =
-        subst (λ (l : List ℕ). Looked (job .table) (job .loads) l) (sym (part-end indices whole)) behind
+    pub shown_indices : Looked job.table job.loads (part_of job zeros indices)
+    shown_indices =
+        subst (λ (l : List ℕ). Looked job.table job.loads l) (sym (part_end indices whole)) behind
 
     pub ready :
         (full : List ℕ)
-        → full ≡ planOf job
-        → ((length (partOf job zeros full) ≡ length (job .loads)) × (length (partOf job zeros indices) ≡ length (job .loads)))
-        × (Named 0 (job .islands) (partOf job zeros full) × Below most-levels (partOf job zeros indices))
+        → full ≡ plan_of job
+        → ((length (part_of job zeros full) ≡ length job.loads) × (length (part_of job zeros indices) ≡ length job.loads))
+        × (Named 0 job.islands (part_of job zeros full) × Below most_levels (part_of job zeros indices))
     unfolding padding
     ready full is =
-        let plan = shown-plan full is in
-        let levels = part-end indices whole in
-        let placed = plan-placement job passed in
-        let long : length (drop (padding job) indices) ≡ length (job .loads) =
-        omega (arith, length-drop (padding job) indices, passed .few) in (
-          (ap (λ (l : List ℕ). length l) plan ∙ placed .one-a-load, ap (λ (l : List ℕ). length l) levels ∙ long),
+        let plan = shown_plan full is in
+        let levels = part_end indices whole in
+        let placed = plan_placement job passed in
+        let long : length (drop (padding job) indices) ≡ length job.loads =
+        omega (arith, length-drop (padding job) indices, passed.few) in (
+          (ap (λ (l : List ℕ). length l) plan ∙ placed.one_a_load, ap (λ (l : List ℕ). length l) levels ∙ long),
           (
-            subst (λ (l : List ℕ). Named 0 (job .islands) l) (sym plan) (λ j h. (placed .islands j h .0, omega (arith, placed .islands j h))),
-            subst (λ (l : List ℕ). Below most-levels l) (sym levels) low,
+            subst (λ (l : List ℕ). Named 0 job.islands l) (sym plan) (λ j h. ((placed.islands j h).0, omega (arith, placed.islands j h))),
+            subst (λ (l : List ℕ). Below most_levels l) (sym levels) low,
           ),
         )

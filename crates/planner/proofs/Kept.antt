@@ -1,68 +1,68 @@
 -- The place of a run in the table of bests.
---     place-within    the place of a run within the board is one of the table's
---     place-one       no two runs share a place
---     kept-none       what the table has for a run of no islands
---     best-some       what the table has for a run of some islands
---     best-stored     a figure that is stored for a run is what the table then has for it
---     best-others     and it has for every other run what it had
--- Nothing here but `place-within` and `place-one` looks into `place`. Assumes nothing.
-use Prim.Native.Nat.{ℕ, zero, suc, _+_, _-_, _*_, _≤_, _<_}
-use mathlib.Core.Path.{_≡_, refl, sym, subst}
+--     place_within    the place of a run within the board is one of the table's
+--     place_one       no two runs share a place
+--     kept_none       what the table has for a run of no islands
+--     best_some       what the table has for a run of some islands
+--     best_stored     a figure that is stored for a run is what the table then has for it
+--     best_others     and it has for every other run what it had
+-- Nothing here but `place_within` and `place_one` looks into `place`. Assumes nothing.
+use Prim.Native.Nat.{ℕ, zero, suc, ◌+◌, ◌*◌, ◌≤◌, ◌<◌}
+use mathlib.Core.Path.{◌≡◌, refl, sym, subst}
 use mathlib.Core.List.{List}
-use native.Mathlib.Nat.{eq-of-mul-eq-mul-right, mul-pos, not-suc-le-zero}
+use native.Mathlib.Nat.{eq_of_mul-eq-mul_right, mul-pos, not-suc-le-zero}
 use native.Mathlib.Omega.{arith}
-use lib.ListN.{length, getD, set}
-use lib.Seq.{getD-set-same, getD-set-other}
-use Rattle·model.specs.Limits.{most-places}
-use Rattle·planner·specs.specs.Kept.{keptSize, place, bestAt}
+use lib.ListN.{length, get_or, set}
+use lib.Seq.{get_or-set_same, get_or-set_other}
+use Rattle.model.specs.Limits.{most_places}
+use Rattle.planner.specs.Kept.{kept_size, place, best_at}
 
-pub place-within : (Q i v : ℕ) → 0 < v * Q → i + v * Q ≤ most-places → place Q i v < keptSize
+pub place_within : (Q i v : ℕ) → 0 < v * Q → i + v * Q ≤ most_places → place Q i v < kept_size
 unfolding place
-place-within Q i v some within = omega arith
+place_within Q i v some within = omega arith
 
 -- no two runs share a place
-pub place-one :
-    (Q i v i′ v′ : ℕ)
+pub place_one :
+    (Q i v i' v' : ℕ)
     → 0 < Q
     → 0 < v
-    → 0 < v′
-    → i + v * Q ≤ most-places
-    → i′ + v′ * Q ≤ most-places
-    → place Q i v ≡ place Q i′ v′
-    → (i ≡ i′) × (v ≡ v′)
+    → 0 < v'
+    → i + v * Q ≤ most_places
+    → i' + v' * Q ≤ most_places
+    → place Q i v ≡ place Q i' v'
+    → (i ≡ i') × (v ≡ v')
 unfolding place
-place-one Q i v i′ v′ pos some some′ within within′ same =
+place_one Q i v i' v' pos some some' within within' same =
     let p : 0 < v * Q = mul-pos some pos in
-    let p′ : 0 < v′ * Q = mul-pos some′ pos in
-    let first : i ≡ i′ = omega arith in
-    (first, eq-of-mul-eq-mul-right Q pos v v′ (omega arith))
+    let p' : 0 < v' * Q = mul-pos some' pos in
+    let first : i ≡ i' = omega arith in
+    (first, eq_of_mul-eq-mul_right Q pos v v' (omega arith))
 
-pub kept-none : (Q : ℕ) (bests : List ℕ) (i v : ℕ) → v < 1 → bestAt Q bests i v ≡ 0
-unfolding bestAt
-kept-none Q bests i zero none = refl
-kept-none Q bests i (suc m) none = absurd (omega arith)
+pub kept_none : (Q : ℕ) (bests : List ℕ) (i v : ℕ) → v < 1 → best_at Q bests i v ≡ 0
+unfolding best_at
+kept_none Q bests i zero none = refl
+kept_none Q bests i (suc m) none = absurd (omega arith)
 
-pub best-some : (Q : ℕ) (bests : List ℕ) (i v : ℕ) → 0 < v → bestAt Q bests i v ≡ getD bests (place Q i v) 0
-unfolding bestAt
-best-some Q bests i zero some = absurd (not-suc-le-zero some)
-best-some Q bests i (suc m) some = refl
+pub best_some : (Q : ℕ) (bests : List ℕ) (i v : ℕ) → 0 < v → best_at Q bests i v ≡ get_or bests (place Q i v) 0
+unfolding best_at
+best_some Q bests i zero some = absurd (not-suc-le-zero some)
+best_some Q bests i (suc m) some = refl
 
 module _
-    (Q : ℕ) (bests : List ℕ) (i m c : ℕ) (pos : 0 < Q) (whole : length bests ≡ keptSize)
-    (within : i + suc m * Q ≤ most-places) where
-  pub best-stored : bestAt Q (set bests (place Q i (suc m)) c) i (suc m) ≡ c
-  unfolding bestAt
-  best-stored =
-      getD-set-same bests (place Q i (suc m)) c 0
-      (subst (λ (n : ℕ). place Q i (suc m) < n) (sym whole) (place-within Q i (suc m) (omega arith) within))
+    (Q : ℕ) (bests : List ℕ) (i m c : ℕ) (pos : 0 < Q) (whole : length bests ≡ kept_size)
+    (within : i + suc m * Q ≤ most_places) where
+  pub best_stored : best_at Q (set bests (place Q i (suc m)) c) i (suc m) ≡ c
+  unfolding best_at
+  best_stored =
+      get_or-set_same bests (place Q i (suc m)) c 0
+      (subst (λ (n : ℕ). place Q i (suc m) < n) (sym whole) (place_within Q i (suc m) (omega arith) within))
 
-  pub best-others :
+  pub best_others :
       (j g : ℕ)
-      → j + g * Q ≤ most-places
+      → j + g * Q ≤ most_places
       → ¬ ((j ≡ i) × (g ≡ suc m))
-      → bestAt Q (set bests (place Q i (suc m)) c) j g ≡ bestAt Q bests j g
-  unfolding bestAt
-  best-others j zero inside other = refl
-  best-others j (suc n) inside other =
-      getD-set-other bests (place Q i (suc m)) (place Q j (suc n)) c 0
-      (λ same. other (place-one Q j (suc n) i (suc m) pos (omega arith) (omega arith) inside within same))
+      → best_at Q (set bests (place Q i (suc m)) c) j g ≡ best_at Q bests j g
+  unfolding best_at
+  best_others j zero inside other = refl
+  best_others j (suc n) inside other =
+      get_or-set_other bests (place Q i (suc m)) (place Q j (suc n)) c 0
+      (λ same. other (place_one Q j (suc n) i (suc m) pos (omega arith) (omega arith) inside within same))

@@ -1,166 +1,166 @@
 -- The level bytes, load by load.
 --     SoFar          the bytes that the first k loads give, whatever the job's table
---     so-far-none    before the first load all are 0
---     so-far-more    a load above 0 gives its island its own level: no load before it is heavier
---     so-far-idle    a load of 0 changes nothing
---     so-far-all     after the last load they are the level numbers of the job
+--     so_far_none    before the first load all are 0
+--     so_far_more    a load above 0 gives its island its own level: no load before it is heavier
+--     so_far_idle    a load of 0 changes nothing
+--     so_far_all     after the last load they are the level numbers of the job
 -- Assumes nothing.
-use Prim.Native.Nat.{ℕ, suc, _+_, _-_, _≤_, _<_}
-use mathlib.Core.Path.{_≡_, sym, ap, _∙_, subst}
+use Prim.Native.Nat.{ℕ, suc, ◌+◌, ◌-◌, ◌≤◌, ◌<◌}
+use mathlib.Core.Path.{◌≡◌, sym, ap, ◌∙◌, subst}
 use mathlib.Core.Bool.{cond}
-use mathlib.Core.List.{List, [], _∷_, _++_, append-nil}
-use native.Mathlib.Nat.{zero-add, le-max-left}
+use mathlib.Core.List.{List, [], ◌∷◌, ◌++◌, append-nil}
+use native.Mathlib.Nat.{zero-add, le-max_left}
 use native.Mathlib.Numerals.{add-one}
-use native.Mathlib.Decide.{ℕ-discrete}
+use native.Mathlib.Decide.{ℕ_discrete}
 use native.Mathlib.Omega.{arith}
 use borrow.Author.Tests.{lt-ltb}
 use lib.Dec.{ltb}
-use lib.ListN.{length, getD, set, take, drop, length-set, take-append-drop}
-use lib.Seq.{length-take-le, take-suc, take-length, getD-set-same, getD-set-other, ext-getD}
-use Rattle·model.specs.Level.{levelOf}
-use Rattle·model.specs.Job.{Job}
-use Rattle·model.specs.Power.{each, held, heaviest, active, levelNumber, levels}
-use Rattle·model.specs.Plan.{Named}
-use Rattle·model.specs.Ordered.{Ordered}
-use Rattle·optimum.specs.Loads.{Sorted}
-use Rattle·optimum.proofs.Spread.{each-length, each-at}
-use Rattle·optimum.proofs.Held.{held-append, held-other, heaviest-append}
-use Rattle·optimum.proofs.OrderedLoads.{ordered-sorted}
-use Rattle·optimum.proofs.SortedLoads.{sorted-front, top-heaviest}
-use Rattle·planner·specs.specs.Positions.{Looked, Blank, LevelNumbers}
+use lib.ListN.{length, get_or, set, take, drop, length-set, take-append-drop}
+use lib.Seq.{length-take-le, take-suc, take-length, get_or-set_same, get_or-set_other, ext_get_or}
+use Rattle.model.specs.Level.{level_of}
+use Rattle.model.specs.Job.{Job}
+use Rattle.model.specs.Power.{each, held, heaviest, active, level_number, levels}
+use Rattle.model.specs.Plan.{Named}
+use Rattle.model.specs.Ordered.{Ordered}
+use Rattle.optimum.specs.Loads.{Sorted}
+use Rattle.optimum.proofs.Spread.{each_length, each_at}
+use Rattle.optimum.proofs.Held.{held_append, held_other, heaviest_append}
+use Rattle.optimum.proofs.OrderedLoads.{ordered_sorted}
+use Rattle.optimum.proofs.SortedLoads.{sorted_front, top_heaviest}
+use Rattle.planner.specs.Positions.{Looked, Blank, LevelNumbers}
 
 -- the heaviest of the first k loads on the island z
 top : List ℕ → List ℕ → ℕ → ℕ → ℕ
 top plan ws z k = heaviest (held z (take k plan) (take k ws))
 
-module _ (plan ws : List ℕ) (as-long : length plan ≡ length ws) (k : ℕ) (some : k < length ws) where
-  first-plan : take (suc k) plan ≡ take k plan ++ (getD plan k 0 ∷ [])
-  first-plan = take-suc plan k 0 (omega arith)
+module _ (plan ws : List ℕ) (as_long : length plan ≡ length ws) (k : ℕ) (some : k < length ws) where
+  first_plan : take (suc k) plan ≡ take k plan ++ (get_or plan k 0 ∷ [])
+  first_plan = take-suc plan k 0 (omega arith)
 
-  first-loads : take (suc k) ws ≡ take k ws ++ (getD ws k 0 ∷ [])
-  first-loads = take-suc ws k 0 some
+  first_loads : take (suc k) ws ≡ take k ws ++ (get_or ws k 0 ∷ [])
+  first_loads = take-suc ws k 0 some
 
   firsts : length (take k plan) ≡ length (take k ws)
   firsts = length-take-le k plan (omega arith) ∙ sym (length-take-le k ws (omega arith))
 
-  one-more :
+  one_more :
       (z : ℕ)
       → held z (take (suc k) plan) (take (suc k) ws)
-      ≡ held z (take k plan) (take k ws) ++ held z (getD plan k 0 ∷ []) (getD ws k 0 ∷ [])
-  one-more z =
-      rw (first-plan, first-loads)
-      (held-append z (take k plan) (getD plan k 0 ∷ []) (take k ws) (getD ws k 0 ∷ []) firsts)
+      ≡ held z (take k plan) (take k ws) ++ held z (get_or plan k 0 ∷ []) (get_or ws k 0 ∷ [])
+  one_more z =
+      rw (first_plan, first_loads)
+      (held_append z (take k plan) (get_or plan k 0 ∷ []) (take k ws) (get_or ws k 0 ∷ []) firsts)
 
-  top-other : (z : ℕ) → ¬ (getD plan k 0 ≡ z) → top plan ws z (suc k) ≡ top plan ws z k
+  top_other : (z : ℕ) → ¬ (get_or plan k 0 ≡ z) → top plan ws z (suc k) ≡ top plan ws z k
   unfolding top held
-  top-other z other =
+  top_other z other =
       ap (λ (l : List ℕ). heaviest l)
-      (one-more z
-      ∙ ap (λ (l : List ℕ). held z (take k plan) (take k ws) ++ l) (held-other (getD plan k 0) z [] (getD ws k 0) [] other)
+      (one_more z
+      ∙ ap (λ (l : List ℕ). held z (take k plan) (take k ws) ++ l) (held_other (get_or plan k 0) z [] (get_or ws k 0) [] other)
       ∙ append-nil (held z (take k plan) (take k ws)))
 
-  top-rises : (z : ℕ) → top plan ws z k ≤ top plan ws z (suc k)
+  top_rises : (z : ℕ) → top plan ws z k ≤ top plan ws z (suc k)
   unfolding top
-  top-rises z = rw (one-more z, heaviest-append) (le-max-left _ _)
+  top_rises z = rw (one_more z, heaviest_append) (le-max_left _ _)
 
   -- the load at k is at least as heavy as those before it, so on its own island it is the heaviest
-  top-same : Ordered ws → (z : ℕ) → getD plan k 0 ≡ z → top plan ws z (suc k) ≡ getD ws k 0
+  top_same : Ordered ws → (z : ℕ) → get_or plan k 0 ≡ z → top plan ws z (suc k) ≡ get_or ws k 0
   unfolding top
-  top-same ordered z same =
-      let whole : Sorted (take (suc k) ws ++ drop (suc k) ws) = rw (take-append-drop (suc k) ws) (ordered-sorted ws ordered) in
-      let sorted : Sorted (take k ws ++ (getD ws k 0 ∷ [])) =
-      rw first-loads at (sorted-front (take (suc k) ws) (drop (suc k) ws) whole) in
-      rw (first-plan, first-loads, same) (top-heaviest z (take k plan) (take k ws) (getD ws k 0) firsts sorted)
+  top_same ordered z same =
+      let whole : Sorted (take (suc k) ws ++ drop (suc k) ws) = rw (take-append-drop (suc k) ws) (ordered_sorted ws ordered) in
+      let sorted : Sorted (take k ws ++ (get_or ws k 0 ∷ [])) =
+      rw first_loads at (sorted_front (take (suc k) ws) (drop (suc k) ws) whole) in
+      rw (first_plan, first_loads, same) (top_heaviest z (take k plan) (take k ws) (get_or ws k 0) firsts sorted)
 
   -- and where it is 0, those before it are 0 too
-  top-idle : Ordered ws → getD ws k 0 ≤ 0 → (z : ℕ) → top plan ws z (suc k) ≡ top plan ws z k
-  top-idle ordered idle z =
-      elim (ℕ-discrete (getD plan k 0) z) [
-        | yes e ↦ omega (arith, top-rises z, top-same ordered z e)
-        | no other ↦ top-other z other
+  top_idle : Ordered ws → get_or ws k 0 ≤ 0 → (z : ℕ) → top plan ws z (suc k) ≡ top plan ws z k
+  top_idle ordered idle z =
+      elim (ℕ_discrete (get_or plan k 0) z) [
+        | yes e ↦ omega (arith, top_rises z, top_same ordered z e)
+        | no other ↦ top_other z other
       ]
 
 -- the level number by the heaviest load
 number : Job → ℕ → ℕ
-number job w = cond (ltb 0 w) (suc (levelOf (job .table) w)) 0
+number job w = cond (ltb 0 w) (suc (level_of job.table w)) 0
 
 module _ (ws plan indices : List ℕ) (islands : ℕ) where
   pub record SoFar (k : ℕ) (numbers : List ℕ) : Type 0 where
     pub sized : length numbers ≡ islands
     pub bytes :
         (job : Job)
-        → Looked (job .table) ws indices
+        → Looked job.table ws indices
         → (z : ℕ)
-        → getD numbers z 0 ≡ levelNumber job (held (suc z) (take k plan) (take k ws))
+        → get_or numbers z 0 ≡ level_number job (held (suc z) (take k plan) (take k ws))
 
-  pub so-far-none : (numbers : List ℕ) → Blank numbers → length numbers ≡ islands → SoFar 0 numbers
-  unfolding held heaviest active levelNumber
-  so-far-none numbers blank sized = record { sized = sized; bytes = λ job looked z. blank z }
+  pub so_far_none : (numbers : List ℕ) → Blank numbers → length numbers ≡ islands → SoFar 0 numbers
+  unfolding held heaviest active level_number
+  so_far_none numbers blank sized = record { sized = sized; bytes = λ job looked z. blank z }
 
-  pub so-far-all :
+  pub so_far_all :
       (k : ℕ) (numbers : List ℕ)
       → length plan ≡ length ws
       → SoFar k numbers
       → k ≡ length ws
       → LevelNumbers ws plan indices islands numbers
   unfolding levels
-  so-far-all k numbers as-long so-far all job same wide looked =
-      let byte : ℕ → ℕ = λ z. levelNumber job (held z plan (job .loads)) in
-      let whole : take k plan ≡ plan = ap (λ (n : ℕ). take n plan) (all ∙ sym as-long) ∙ take-length plan in
-      let loads : take k ws ≡ job .loads = ap (λ (n : ℕ). take n ws) all ∙ take-length ws ∙ sym same in
-      ext-getD 0 numbers (each byte 0 (job .islands)) (omega (arith, so-far .sized, each-length byte 0 (job .islands)))
+  so_far_all k numbers as_long so_far all job same wide looked =
+      let byte : ℕ → ℕ = λ z. level_number job (held z plan job.loads) in
+      let whole : take k plan ≡ plan = ap (λ (n : ℕ). take n plan) (all ∙ sym as_long) ∙ take-length plan in
+      let loads : take k ws ≡ job.loads = ap (λ (n : ℕ). take n ws) all ∙ take-length ws ∙ sym same in
+      ext_get_or 0 numbers (each byte 0 job.islands) (omega (arith, so_far.sized, each_length byte 0 job.islands))
       (λ z h.
-      so-far .bytes job looked z
-      ∙ ap (λ (l : List ℕ). levelNumber job (held (suc z) l (take k ws))) whole
-      ∙ ap (λ (l : List ℕ). levelNumber job (held (suc z) plan l)) loads
+      so_far.bytes job looked z
+      ∙ ap (λ (l : List ℕ). level_number job (held (suc z) l (take k ws))) whole
+      ∙ ap (λ (l : List ℕ). level_number job (held (suc z) plan l)) loads
       ∙ ap (λ (n : ℕ). byte (suc n)) (sym (zero-add z))
-      ∙ sym (each-at byte 0 (job .islands) z (omega arith)))
+      ∙ sym (each_at byte 0 job.islands z (omega arith)))
 
   -- one turn: the load at k is at least as heavy as those before it
-  module _ (ordered : Ordered ws) (as-long : length plan ≡ length ws) (k : ℕ) (some : k < length ws) where
-    by-top :
+  module _ (ordered : Ordered ws) (as_long : length plan ≡ length ws) (k : ℕ) (some : k < length ws) where
+    by_top :
         (after : List ℕ)
         → length after ≡ islands
         → ((job : Job)
-        → Looked (job .table) ws indices
+        → Looked job.table ws indices
         → (z : ℕ)
-        → getD after z 0 ≡ number job (top plan ws (suc z) (suc k)))
+        → get_or after z 0 ≡ number job (top plan ws (suc z) (suc k)))
         → SoFar (k + 1) after
-    unfolding top number levelNumber active
-    by-top after sized bytes = subst (λ (n : ℕ). SoFar n after) (sym (add-one k)) (record { sized = sized; bytes = bytes })
+    unfolding top number level_number active
+    by_top after sized bytes = subst (λ (n : ℕ). SoFar n after) (sym (add-one k)) (record { sized = sized; bytes = bytes })
 
-    module _ (numbers : List ℕ) (so-far : SoFar k numbers) (after : List ℕ) where
-      pub so-far-idle : after ≡ numbers → getD ws k 0 ≤ 0 → SoFar (k + 1) after
-      unfolding top number levelNumber active
-      so-far-idle kept idle =
-          by-top after (ap (λ (l : List ℕ). length l) kept ∙ so-far .sized)
+    module _ (numbers : List ℕ) (so_far : SoFar k numbers) (after : List ℕ) where
+      pub so_far_idle : after ≡ numbers → get_or ws k 0 ≤ 0 → SoFar (k + 1) after
+      unfolding top number level_number active
+      so_far_idle kept idle =
+          by_top after (ap (λ (l : List ℕ). length l) kept ∙ so_far.sized)
           (λ job looked z.
-          ap (λ (l : List ℕ). getD l z 0) kept
-          ∙ so-far .bytes job looked z
-          ∙ ap (λ (w : ℕ). number job w) (sym (top-idle plan ws as-long k some ordered idle (suc z))))
+          ap (λ (l : List ℕ). get_or l z 0) kept
+          ∙ so_far.bytes job looked z
+          ∙ ap (λ (w : ℕ). number job w) (sym (top_idle plan ws as_long k some ordered idle (suc z))))
 
-      pub so-far-more :
+      pub so_far_more :
           (i : ℕ)
-          → after ≡ set numbers i (getD indices k 0 + 1)
-          → 0 < getD ws k 0
+          → after ≡ set numbers i (get_or indices k 0 + 1)
+          → 0 < get_or ws k 0
           → Named 0 islands plan
-          → i ≡ getD plan k 0 - 1
+          → i ≡ get_or plan k 0 - 1
           → SoFar (k + 1) after
-      unfolding top number levelNumber active
-      so-far-more i stored heavy named place =
-          let v = getD indices k 0 + 1 in
+      unfolding top number level_number active
+      so_far_more i stored heavy named place =
+          let v = get_or indices k 0 + 1 in
           let range = named k (omega arith) in
-          by-top after (ap (λ (l : List ℕ). length l) stored ∙ length-set numbers i v ∙ so-far .sized)
+          by_top after (ap (λ (l : List ℕ). length l) stored ∙ length-set numbers i v ∙ so_far.sized)
           (λ job looked z.
-          ap (λ (l : List ℕ). getD l z 0) stored
-          ∙ elim (ℕ-discrete z i) [
+          ap (λ (l : List ℕ). get_or l z 0) stored
+          ∙ elim (ℕ_discrete z i) [
             | yes e ↦
-                ap (λ (n : ℕ). getD (set numbers i v) n 0) e
-                ∙ getD-set-same numbers i v 0 (omega (arith, so-far .sized))
-                ∙ rw (top-same plan ws as-long k some ordered (suc z) (omega arith), lt-ltb 0 (getD ws k 0) heavy, ← looked k some)
+                ap (λ (n : ℕ). get_or (set numbers i v) n 0) e
+                ∙ get_or-set_same numbers i v 0 (omega (arith, so_far.sized))
+                ∙ rw (top_same plan ws as_long k some ordered (suc z) (omega arith), lt-ltb 0 (get_or ws k 0) heavy, ← looked k some)
                 (add-one _)
             | no other ↦
-                getD-set-other numbers i z v 0 other
-                ∙ so-far .bytes job looked z
-                ∙ ap (λ (w : ℕ). number job w) (sym (top-other plan ws as-long k some (suc z) (λ e. other (omega arith))))
+                get_or-set_other numbers i z v 0 other
+                ∙ so_far.bytes job looked z
+                ∙ ap (λ (w : ℕ). number job w) (sym (top_other plan ws as_long k some (suc z) (λ e. other (omega arith))))
           ])

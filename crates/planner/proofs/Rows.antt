@@ -1,86 +1,86 @@
 -- The rows of a run, as they are stored one after another.
---     row-grown     a row with one figure more
---     rows-kept     and the rows before it, which keep theirs
---     lowest-sum    what the code adds up for the lowest member
---     next-sum      and for one member more
---     gap-by-rows   rows that are those of the recurrence give the costs of gaps that the recurrence has
+--     row_grown     a row with one figure more
+--     rows_kept     and the rows before it, which keep theirs
+--     lowest_sum    what the code adds up for the lowest member
+--     next_sum      and for one member more
+--     gap_by_rows   rows that are those of the recurrence give the costs of gaps that the recurrence has
 -- Assumes nothing.
-use Prim.Native.Nat.{ℕ, suc, _+_, _-_, _*_, _≤_, _<_}
-use mathlib.Core.Path.{_≡_, sym, ap, _∙_}
+use Prim.Native.Nat.{ℕ, suc, ◌+◌, ◌-◌, ◌*◌, ◌≤◌, ◌<◌}
+use mathlib.Core.Path.{◌≡◌, sym, ap, ◌∙◌}
 use mathlib.Core.List.{List}
 use native.Mathlib.Nat.{sub-le}
-use native.Mathlib.Decide.{ℕ-discrete}
+use native.Mathlib.Decide.{ℕ_discrete}
 use native.Mathlib.Omega.{arith}
-use lib.ListN.{length, getD, set}
-use lib.Seq.{getD-set-same, getD-set-other}
-use Rattle·model.specs.Limits.{most-islands}
-use Rattle·optimum.specs.Best.{least, loadAt, fill, gapCost}
-use Rattle·optimum.proofs.First.{least-same}
-use Rattle·optimum.proofs.Recurrence.{fill-lowest, fill-member}
-use Rattle·planner·specs.specs.Rows.{rowAt}
+use lib.ListN.{length, get_or, set}
+use lib.Seq.{get_or-set_same, get_or-set_other}
+use Rattle.model.specs.Limits.{most_islands}
+use Rattle.optimum.specs.Best.{least, load_at, fill, gap_cost}
+use Rattle.optimum.proofs.First.{least_same}
+use Rattle.optimum.proofs.Recurrence.{fill_lowest, fill_member}
+use Rattle.planner.specs.Rows.{row_at}
 
 -- a figure c is stored at place n of row r
-module _ (rows : List ℕ) (r n place c : ℕ) (at : place ≡ r * most-islands + n) (few : n < most-islands) where
-  row-other : (s k : ℕ) → k < most-islands → ¬ ((s ≡ r) × (k ≡ n)) → rowAt (set rows place c) s k ≡ rowAt rows s k
-  unfolding rowAt
-  row-other s k short other =
-      getD-set-other rows place (s * most-islands + k) c 0
+module _ (rows : List ℕ) (r n place c : ℕ) (at : place ≡ r * most_islands + n) (few : n < most_islands) where
+  row_other : (s k : ℕ) → k < most_islands → ¬ ((s ≡ r) × (k ≡ n)) → row_at (set rows place c) s k ≡ row_at rows s k
+  unfolding row_at
+  row_other s k short other =
+      get_or-set_other rows place (s * most_islands + k) c 0
       (λ same.
       let one : s ≡ r = omega arith in
       other (one, omega arith))
 
-  pub row-grown :
+  pub row_grown :
       (f : ℕ → ℕ)
       → place < length rows
       → c ≡ f n
-      → ((k : ℕ) → k < n → rowAt rows r k ≡ f k)
+      → ((k : ℕ) → k < n → row_at rows r k ≡ f k)
       → (k : ℕ)
       → k < n + 1
-      → rowAt (set rows place c) r k ≡ f k
-  unfolding rowAt
-  row-grown f room new before k bound =
-      elim (ℕ-discrete k n) [
+      → row_at (set rows place c) r k ≡ f k
+  unfolding row_at
+  row_grown f room new before k bound =
+      elim (ℕ_discrete k n) [
         | yes e ↦
-            let here : r * most-islands + k ≡ place = omega arith in
-            ap (λ (p : ℕ). getD (set rows place c) p 0) here ∙ getD-set-same rows place c 0 room ∙ new ∙ ap f (sym e)
-        | no other ↦ row-other r k (omega arith) (λ same. other (same .1)) ∙ before k (omega arith)
+            let here : r * most_islands + k ≡ place = omega arith in
+            ap (λ (p : ℕ). get_or (set rows place c) p 0) here ∙ get_or-set_same rows place c 0 room ∙ new ∙ ap f (sym e)
+        | no other ↦ row_other r k (omega arith) (λ same. other same.1) ∙ before k (omega arith)
       ]
 
-  pub rows-kept :
+  pub rows_kept :
       (f : ℕ → ℕ → ℕ) (last m : ℕ)
       → last < r
-      → m < most-islands
-      → ((s k : ℕ) → s ≤ last → k ≤ m → rowAt rows s k ≡ f s k)
+      → m < most_islands
+      → ((s k : ℕ) → s ≤ last → k ≤ m → row_at rows s k ≡ f s k)
       → (s k : ℕ)
       → s ≤ last
       → k ≤ m
-      → rowAt (set rows place c) s k ≡ f s k
-  rows-kept f last m before short known s k low inside =
-      row-other s k (omega arith) (λ same. omega (arith, same .0)) ∙ known s k low inside
+      → row_at (set rows place c) s k ≡ f s k
+  rows_kept f last m before short known s k low inside =
+      row_other s k (omega arith) (λ same. omega (arith, same.0)) ∙ known s k low inside
 
-pub gap-by-rows :
+pub gap_by_rows :
     (Q : ℕ) (b : ℕ → ℕ → ℕ) (row f : ℕ → ℕ) (i r n : ℕ)
     → ((k : ℕ) → k ≤ n → row k ≡ f k)
     → (g : ℕ)
-    → gapCost Q b row i r n g ≡ gapCost Q b f i r n g
-unfolding gapCost
-gap-by-rows Q b row f i r n same g =
+    → gap_cost Q b row i r n g ≡ gap_cost Q b f i r n g
+unfolding gap_cost
+gap_by_rows Q b row f i r n same g =
     ap (λ (c : ℕ). b (i + ((n - g) * Q + suc r)) g + c) (same (n - g) (sub-le n g))
 
 module _ (Q : ℕ) (ws : List ℕ) (b : ℕ → ℕ → ℕ) (ρ i : ℕ) where
-  pub lowest-sum : (n : ℕ) → ρ * getD ws (i + n * Q) 0 + b i n ≡ fill Q ws b ρ i 0 n
-  unfolding loadAt
-  lowest-sum n =
-      ap (λ (k : ℕ). ρ * getD ws k 0 + b i n) (omega arith) ∙ sym (fill-lowest Q ws b ρ i n)
+  pub lowest_sum : (n : ℕ) → ρ * get_or ws (i + n * Q) 0 + b i n ≡ fill Q ws b ρ i 0 n
+  unfolding load_at
+  lowest_sum n =
+      ap (λ (k : ℕ). ρ * get_or ws k 0 + b i n) (omega arith) ∙ sym (fill_lowest Q ws b ρ i n)
 
-  pub next-sum :
+  pub next_sum :
       (row : ℕ → ℕ) (r n : ℕ)
       → ((k : ℕ) → k ≤ n → row k ≡ fill Q ws b ρ i r k)
-      → ρ * getD ws (i + (n * Q + (r + 1))) 0 + least n (gapCost Q b row i r n) ≡ fill Q ws b ρ i (suc r) n
-  unfolding loadAt
-  next-sum row r n same =
-      ap (λ (k : ℕ). ρ * getD ws k 0 + least n (gapCost Q b row i r n)) (omega arith)
-      ∙ ap (λ (c : ℕ). ρ * getD ws (i + (n * Q + suc r)) 0 + c)
-      (least-same n (gapCost Q b row i r n) (gapCost Q b (fill Q ws b ρ i r) i r n)
-      (λ g bound. gap-by-rows Q b row (fill Q ws b ρ i r) i r n same g))
-      ∙ sym (fill-member Q ws b ρ i r n)
+      → ρ * get_or ws (i + (n * Q + (r + 1))) 0 + least n (gap_cost Q b row i r n) ≡ fill Q ws b ρ i (suc r) n
+  unfolding load_at
+  next_sum row r n same =
+      ap (λ (k : ℕ). ρ * get_or ws k 0 + least n (gap_cost Q b row i r n)) (omega arith)
+      ∙ ap (λ (c : ℕ). ρ * get_or ws (i + (n * Q + suc r)) 0 + c)
+      (least_same n (gap_cost Q b row i r n) (gap_cost Q b (fill Q ws b ρ i r) i r n)
+      (λ g bound. gap_by_rows Q b row (fill Q ws b ρ i r) i r n same g))
+      ∙ sym (fill_member Q ws b ρ i r n)

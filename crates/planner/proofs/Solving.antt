@@ -1,65 +1,65 @@
 -- From the table of bests to the whole board.
---     board-places    a board has at most 64 positions
---     board-sized     so its table is of the right size
---     board-solved    the best of the whole board, and the plan that is written over all its positions, are those of the recurrence
+--     board_places    a board has at most 64 positions
+--     board_sized     so its table is of the right size
+--     board_solved    the best of the whole board, and the plan that is written over all its positions, are those of the recurrence
 -- Assumes nothing.
-use Prim.Native.Nat.{ℕ, _*_, _≤_, _<_}
-use mathlib.Core.Path.{_≡_, sym, _∙_}
+use Prim.Native.Nat.{ℕ, ◌*◌, ◌≤◌, ◌<◌}
+use mathlib.Core.Path.{◌≡◌, sym, ◌∙◌}
 use mathlib.Core.List.{List, append-nil}
-use native.Mathlib.Nat.{le-refl, le-of-eq, le-trans, mul-le-mul, zero-add}
+use native.Mathlib.Nat.{le_refl, le_of_eq, le_trans, mul-le-mul, zero-add}
 use native.Mathlib.Omega.{arith}
-use lib.ListN.{length, drop-of-length-le}
+use lib.ListN.{length, drop_of_length-le}
 use lib.Seq.{sets, sets-eq}
-use Rattle·model.specs.Limits.{most-islands, most-cores, most-places}
-use Rattle·model.specs.Refusals.{FitSizes}
-use Rattle·optimum.specs.Chosen.{planBy}
-use Rattle·optimum.proofs.Shapes.{run-length}
-use Rattle·optimum.proofs.ChosenRun.{by-run}
-use Rattle·optimum.proofs.ChosenSame.{plan-of-bests}
-use Rattle·planner·specs.specs.Kept.{keptSize, bestAt, Found}
-use Rattle·planner·specs.specs.Bounds.{Light, Sized}
-use Rattle·planner·specs.specs.Written.{RunWritten}
-use Rattle·planner·specs.specs.Settled.{Solved}
+use Rattle.model.specs.Limits.{most_islands, most_cores, most_places}
+use Rattle.model.specs.Refusals.{FitSizes}
+use Rattle.optimum.specs.Chosen.{plan_by}
+use Rattle.optimum.proofs.Shapes.{run_length}
+use Rattle.optimum.proofs.ChosenRun.{by_run}
+use Rattle.optimum.proofs.ChosenSame.{plan_of_bests}
+use Rattle.planner.specs.Kept.{kept_size, best_at, Found}
+use Rattle.planner.specs.Bounds.{Light, Sized}
+use Rattle.planner.specs.Written.{RunWritten}
+use Rattle.planner.specs.Settled.{Solved}
 
-pub board-places : (v Q : ℕ) → FitSizes v Q → v * Q ≤ most-places
-board-places v Q sizes = mul-le-mul {n₂ = most-islands} {m₂ = most-cores} (sizes .few-islands) (sizes .few-cores)
+pub board_places : (v Q : ℕ) → FitSizes v Q → v * Q ≤ most_places
+board_places v Q sizes = mul-le-mul {n₂ = most_islands} {m₂ = most_cores} sizes.few_islands sizes.few_cores
 
-pub board-sized :
+pub board_sized :
     (v Q : ℕ) (ws bests : List ℕ)
     → FitSizes v Q
     → length ws ≡ v * Q
-    → length bests ≡ keptSize
+    → length bests ≡ kept_size
     → Light ws
     → Sized Q ws bests
-board-sized v Q ws bests sizes places whole light =
+board_sized v Q ws bests sizes places whole light =
     record {
-      some-core = sizes .some-core;
-      few-cores = sizes .few-cores;
-      few-places = le-trans (le-of-eq places) (board-places v Q sizes);
+      some_core = sizes.some_core;
+      few_cores = sizes.few_cores;
+      few_places = le_trans (le_of_eq places) (board_places v Q sizes);
       whole = whole;
       light = light;
     }
 
 -- a list that is as long as the one it is stored over
-sets-all : (before xs : List ℕ) → length xs ≡ length before → sets before 0 xs ≡ xs
-sets-all before xs as-long =
-    sets-eq xs before 0 (omega arith) ∙ rw (zero-add, drop-of-length-le before (le-of-eq (sym as-long))) (append-nil xs)
+sets_all : (before xs : List ℕ) → length xs ≡ length before → sets before 0 xs ≡ xs
+sets_all before xs as_long =
+    sets-eq xs before 0 (omega arith) ∙ rw (zero-add, drop_of_length-le before (le_of_eq (sym as_long))) (append-nil xs)
 
-pub board-solved :
+pub board_solved :
     (Q own v : ℕ) (ws rates bests before after : List ℕ) (total : ℕ)
     → 0 < Q
     → length ws ≡ v * Q
     → length before ≡ v * Q
     → Found Q own ws rates bests v
     → RunWritten Q ws rates bests before after 0 0 v
-    → total ≡ bestAt Q bests 0 v
+    → total ≡ best_at Q bests 0 v
     → Solved Q own ws rates v total after
-board-solved Q own v ws rates bests before after total some places room found written least rate charged =
-    let plan = planBy Q ws (bestAt Q bests) rate 0 0 v in
-    let whole : length plan ≡ v * Q = run-length Q 0 v plan (by-run Q ws (bestAt Q bests) rate some 0 0 v) in
+board_solved Q own v ws rates bests before after total some places room found written least rate charged =
+    let plan = plan_by Q ws (best_at Q bests) rate 0 0 v in
+    let whole : length plan ≡ v * Q = run_length Q 0 v plan (by_run Q ws (best_at Q bests) rate some 0 0 v) in
     let same = found rate charged in (
-      least ∙ same 0 v (le-refl v) (omega arith),
+      least ∙ same 0 v (le_refl v) (omega arith),
       written rate charged
-          ∙ sets-all before plan (omega arith)
-          ∙ plan-of-bests Q own rate ws (bestAt Q bests) v 0 0 v (le-refl v) (λ j g few inside. same j g few (omega arith)),
+          ∙ sets_all before plan (omega arith)
+          ∙ plan_of_bests Q own rate ws (best_at Q bests) v 0 0 v (le_refl v) (λ j g few inside. same j g few (omega arith)),
     )

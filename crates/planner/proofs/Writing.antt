@@ -1,131 +1,131 @@
 -- What the writer's stores come to.
---     found-within      the gap that costs least has no more islands than there are
---     none-written      no store, where there are no islands
---     lowest-written    the lowest member, and then the run below it
---     member-written    a higher member, then the run in the gap below it, then all below that
---     run-written       a run: its top island, with the rows of its own charge
+--     found_within      the gap that costs least has no more islands than there are
+--     none_written      no store, where there are no islands
+--     lowest_written    the lowest member, and then the run below it
+--     member_written    a higher member, then the run in the gap below it, then all below that
+--     run_written       a run: its top island, with the rows of its own charge
 -- Assumes nothing.
-use Prim.Native.Nat.{ℕ, zero, suc, _+_, _-_, _*_, _≤_, _<_}
-use mathlib.Core.Path.{_≡_, sym, ap, subst, _∙_}
-use mathlib.Core.List.{List, [], _∷_, _++_}
-use native.Mathlib.Nat.{le-refl}
+use Prim.Native.Nat.{ℕ, zero, suc, ◌+◌, ◌-◌, ◌*◌, ◌≤◌, ◌<◌}
+use mathlib.Core.Path.{◌≡◌, sym, ap, subst, ◌∙◌}
+use mathlib.Core.List.{List, [], ◌∷◌, ◌++◌}
+use native.Mathlib.Nat.{le_refl}
 use native.Mathlib.Omega.{arith}
-use lib.ListN.{length, getD, set}
+use lib.ListN.{length, get_or, set}
 use lib.Seq.{sets}
-use Rattle·optimum.specs.Best.{first, gapCost, loadAt, topLoad, fill}
-use Rattle·optimum.specs.Chosen.{chosen, planGaps, planBy}
-use Rattle·optimum.proofs.First.{first-within, first-same}
-use Rattle·optimum.proofs.Recurrence.{islands-parted}
-use Rattle·optimum.proofs.ChosenRun.{gaps-lowest, gaps-member, by-none, by-is, by-run, by-gaps}
-use Rattle·optimum.proofs.Shapes.{run-length, gaps-length}
-use Rattle·planner·specs.specs.Kept.{bestAt}
-use Rattle·planner·specs.specs.Rows.{rowAt, Filling}
-use Rattle·planner·specs.specs.Written.{RunWritten, GapsWritten}
-use Rattle·planner·proofs.proofs.Rows.{gap-by-rows}
-use Rattle·planner·proofs.proofs.Stores.{sets-joined, sets-three}
+use Rattle.optimum.specs.Best.{first, gap_cost, load_at, top_load, fill}
+use Rattle.optimum.specs.Chosen.{chosen, plan_gaps, plan_by}
+use Rattle.optimum.proofs.First.{first_within, first_same}
+use Rattle.optimum.proofs.Recurrence.{islands_parted}
+use Rattle.optimum.proofs.ChosenRun.{gaps_lowest, gaps_member, by_none, by_is, by_run, by_gaps}
+use Rattle.optimum.proofs.Shapes.{run_length, gaps_length}
+use Rattle.planner.specs.Kept.{best_at}
+use Rattle.planner.specs.Rows.{row_at, Filling}
+use Rattle.planner.specs.Written.{RunWritten, GapsWritten}
+use Rattle.planner.proofs.Rows.{gap_by_rows}
+use Rattle.planner.proofs.Stores.{sets_joined, sets_three}
 
-pub found-within : (m g : ℕ) (h : ℕ → ℕ) → g ≡ first m h → g ≤ m
-found-within m g h found = omega (arith, first-within m h)
+pub found_within : (m g : ℕ) (h : ℕ → ℕ) → g ≡ first m h → g ≤ m
+found_within m g h found = omega (arith, first_within m h)
 
-one-below : (r : ℕ) → 0 < r → suc (r - 1) ≡ r
-one-below r h = omega arith
+one_below : (r : ℕ) → 0 < r → suc (r - 1) ≡ r
+one_below r h = omega arith
 
-pub none-written :
+pub none_written :
     (Q : ℕ) (ws rates bests before : List ℕ) (i base v : ℕ) → v < 1 → RunWritten Q ws rates bests before before i base v
-none-written Q ws rates bests before i base zero none rate charged =
-    ap (λ (l : List ℕ). sets before i l) (sym (by-none Q ws (bestAt Q bests) rate i base))
-none-written Q ws rates bests before i base (suc m) none rate charged = absurd (omega arith)
+none_written Q ws rates bests before i base zero none rate charged =
+    ap (λ (l : List ℕ). sets before i l) (sym (by_none Q ws (best_at Q bests) rate i base))
+none_written Q ws rates bests before i base (suc m) none rate charged = absurd (omega arith)
 
 module _ (Q : ℕ) (ws rates bests rows : List ℕ) where
   abbrev b : ℕ → ℕ → ℕ
-  b = bestAt Q bests
+  b = best_at Q bests
 
   -- over rows of the recurrence, the gap that costs least is the one that the plan chooses
-  found-chosen :
-      (ρ i r m : ℕ) → Filling Q ws b ρ i rows r m → first m (gapCost Q b (rowAt rows r) i r m) ≡ chosen Q ws b ρ i r m
+  found_chosen :
+      (ρ i r m : ℕ) → Filling Q ws b ρ i rows r m → first m (gap_cost Q b (row_at rows r) i r m) ≡ chosen Q ws b ρ i r m
   unfolding chosen
-  found-chosen ρ i r m filling =
-      first-same m (gapCost Q b (rowAt rows r) i r m) (gapCost Q b (fill Q ws b ρ i r) i r m)
-      (λ g h. gap-by-rows Q b (rowAt rows r) (fill Q ws b ρ i r) i r m (λ n few. filling r n (le-refl r) few) g)
+  found_chosen ρ i r m filling =
+      first_same m (gap_cost Q b (row_at rows r) i r m) (gap_cost Q b (fill Q ws b ρ i r) i r m)
+      (λ g h. gap_by_rows Q b (row_at rows r) (fill Q ws b ρ i r) i r m (λ n few. filling r n (le_refl r) few) g)
 
-  pub lowest-written :
+  pub lowest_written :
       (before after : List ℕ) (x i base r m : ℕ)
       → 0 < Q
       → r < 1
       → RunWritten Q ws rates bests (set before (i + (m * Q + r)) x) after i base m
       → GapsWritten Q ws rates bests before after rows x i base r m
-  lowest-written before after x i base (suc r) m some none run rate charged ρ filling = absurd (omega arith)
-  lowest-written before after x i base zero m some none run rate charged ρ filling =
+  lowest_written before after x i base (suc r) m some none run rate charged ρ filling = absurd (omega arith)
+  lowest_written before after x i base zero m some none run rate charged ρ filling =
       run rate charged
-      ∙ sets-joined before i (i + (m * Q + 0)) (planBy Q ws b rate i base m) (x ∷ [])
-      (omega (arith, run-length Q base m (planBy Q ws b rate i base m) (by-run Q ws b rate some i base m)))
-      ∙ ap (λ (l : List ℕ). sets before i l) (sym (gaps-lowest Q ws b (planBy Q ws b rate) ρ x i base m))
+      ∙ sets_joined before i (i + (m * Q + 0)) (plan_by Q ws b rate i base m) (x ∷ [])
+      (omega (arith, run_length Q base m (plan_by Q ws b rate i base m) (by_run Q ws b rate some i base m)))
+      ∙ ap (λ (l : List ℕ). sets before i l) (sym (gaps_lowest Q ws b (plan_by Q ws b rate) ρ x i base m))
 
-  member-at :
+  member_at :
       (before between after : List ℕ) (x i base r m g : ℕ)
       → 0 < Q
-      → g ≡ first m (gapCost Q b (rowAt rows r) i r m)
+      → g ≡ first m (gap_cost Q b (row_at rows r) i r m)
       → RunWritten Q ws rates bests (set before (i + (m * Q + suc r)) x) between (i + ((m - g) * Q + suc r)) (base + (m - g)) g
       → GapsWritten Q ws rates bests between after rows x i base r (m - g)
       → GapsWritten Q ws rates bests before after rows x i base (suc r) m
-  member-at before between after x i base r m g some found gap rest rate charged ρ filling =
-      let inner : ℕ → ℕ → ℕ → List ℕ = planBy Q ws b rate in
-      let within = found-within m g (gapCost Q b (rowAt rows r) i r m) found in
-      let low = planGaps Q ws b inner ρ x i base r (m - g) in
+  member_at before between after x i base r m g some found gap rest rate charged ρ filling =
+      let inner : ℕ → ℕ → ℕ → List ℕ = plan_by Q ws b rate in
+      let within = found_within m g (gap_cost Q b (row_at rows r) i r m) found in
+      let low = plan_gaps Q ws b inner ρ x i base r (m - g) in
       let place = i + ((m - g) * Q + suc r) in
       rest rate charged ρ (λ s n hs hn. filling s n (omega arith) (omega arith))
       ∙ ap (λ (l : List ℕ). sets l i low) (gap rate charged)
-      ∙ sets-three before i place (i + (m * Q + suc r)) x low (inner place (base + (m - g)) g)
-      (omega (arith, gaps-length Q x base r (m - g) low (by-gaps Q ws b rate some ρ x i base r (m - g))))
+      ∙ sets_three before i place (i + (m * Q + suc r)) x low (inner place (base + (m - g)) g)
+      (omega (arith, gaps_length Q x base r (m - g) low (by_gaps Q ws b rate some ρ x i base r (m - g))))
       (omega (
         arith,
-        run-length Q (base + (m - g)) g (inner place (base + (m - g)) g) (by-run Q ws b rate some place (base + (m - g)) g),
-        islands-parted m g Q within,
+        run_length Q (base + (m - g)) g (inner place (base + (m - g)) g) (by_run Q ws b rate some place (base + (m - g)) g),
+        islands_parted m g Q within,
       ))
       ∙ ap (λ (k : ℕ).
       sets before i
-      (planGaps Q ws b inner ρ x i base r (m - k) ++ (inner (i + ((m - k) * Q + suc r)) (base + (m - k)) k ++ (x ∷ []))))
-      (found ∙ found-chosen ρ i r m (λ s n hs hn. filling s n (omega arith) hn))
-      ∙ ap (λ (l : List ℕ). sets before i l) (sym (gaps-member Q ws b inner ρ x i base r m))
+      (plan_gaps Q ws b inner ρ x i base r (m - k) ++ (inner (i + ((m - k) * Q + suc r)) (base + (m - k)) k ++ (x ∷ []))))
+      (found ∙ found_chosen ρ i r m (λ s n hs hn. filling s n (omega arith) hn))
+      ∙ ap (λ (l : List ℕ). sets before i l) (sym (gaps_member Q ws b inner ρ x i base r m))
 
-  pub member-written :
+  pub member_written :
       (before between after : List ℕ) (x i base r m g : ℕ)
       → 0 < Q
       → 0 < r
-      → g ≡ first m (gapCost Q b (rowAt rows (r - 1)) i (r - 1) m)
+      → g ≡ first m (gap_cost Q b (row_at rows (r - 1)) i (r - 1) m)
       → RunWritten Q ws rates bests (set before (i + (m * Q + r)) x) between (i + ((m - g) * Q + r)) (base + (m - g)) g
       → GapsWritten Q ws rates bests between after rows x i base (r - 1) (m - g)
       → GapsWritten Q ws rates bests before after rows x i base r m
-  member-written before between after x i base r m g some higher found gap rest =
+  member_written before between after x i base r m g some higher found gap rest =
       subst
       (λ (k : ℕ).
       RunWritten Q ws rates bests (set before (i + (m * Q + k)) x) between (i + ((m - g) * Q + k)) (base + (m - g)) g
       → GapsWritten Q ws rates bests before after rows x i base k m)
-      (one-below r higher) (λ run. member-at before between after x i base (r - 1) m g some found run rest) gap
+      (one_below r higher) (λ run. member_at before between after x i base (r - 1) m g some found run rest) gap
 
-  run-at :
+  run_at :
       (before after : List ℕ) (i base m : ℕ)
       → i + (m * Q + (Q - 1)) < length ws
-      → Filling Q ws b (getD rates (i + (m * Q + (Q - 1))) 0) i rows (Q - 1) m
+      → Filling Q ws b (get_or rates (i + (m * Q + (Q - 1))) 0) i rows (Q - 1) m
       → GapsWritten Q ws rates bests before after rows (base + suc m) i base (Q - 1) m
       → RunWritten Q ws rates bests before after i base (suc m)
-  unfolding topLoad loadAt
-  run-at before after i base m within filling top rate charged =
-      top rate charged (getD rates (i + (m * Q + (Q - 1))) 0) filling
-      ∙ ap (λ (ρ : ℕ). sets before i (planGaps Q ws b (planBy Q ws b rate) ρ (base + suc m) i base (Q - 1) m))
+  unfolding top_load load_at
+  run_at before after i base m within filling top rate charged =
+      top rate charged (get_or rates (i + (m * Q + (Q - 1))) 0) filling
+      ∙ ap (λ (ρ : ℕ). sets before i (plan_gaps Q ws b (plan_by Q ws b rate) ρ (base + suc m) i base (Q - 1) m))
       (charged (i + (m * Q + (Q - 1))) within)
-      ∙ ap (λ (l : List ℕ). sets before i l) (sym (by-is Q ws b rate i base m))
+      ∙ ap (λ (l : List ℕ). sets before i l) (sym (by_is Q ws b rate i base m))
 
-  pub run-written :
+  pub run_written :
       (before after : List ℕ) (i base v : ℕ)
       → 0 < v
       → i + ((v - 1) * Q + (Q - 1)) < length ws
-      → Filling Q ws b (getD rates (i + ((v - 1) * Q + (Q - 1))) 0) i rows (Q - 1) (v - 1)
+      → Filling Q ws b (get_or rates (i + ((v - 1) * Q + (Q - 1))) 0) i rows (Q - 1) (v - 1)
       → GapsWritten Q ws rates bests before after rows (base + v) i base (Q - 1) (v - 1)
       → RunWritten Q ws rates bests before after i base v
-  run-written before after i base v some within filling top =
+  run_written before after i base v some within filling top =
       subst
       (λ (k : ℕ).
       GapsWritten Q ws rates bests before after rows (base + k) i base (Q - 1) (v - 1)
       → RunWritten Q ws rates bests before after i base k)
-      (one-below v some) (run-at before after i base (v - 1) within filling) top
+      (one_below v some) (run_at before after i base (v - 1) within filling) top

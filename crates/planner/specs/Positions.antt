@@ -8,20 +8,17 @@
 --     Blank           every entry of a list is 0
 --     LevelNumbers    the level bytes that the levels of the loads give, whatever the job's table
 -- Assumes nothing.
-use Prim.Native.Nat.{ℕ, _-_, _<_}
-use mathlib.Core.Path.{_≡_}
-use mathlib.Core.List.{List, _++_}
-use lib.ListN.{length, getD, take}
-use Rattle·model.specs.Table.{Table}
-use Rattle·model.specs.Level.{levelOf, cost}
-use Rattle·model.specs.Job.{Job}
-use Rattle·model.specs.Power.{levels}
+use Rattle.std.specs.Prelude.{ℕ, ◌-◌, ◌<◌, ◌≡◌, List, ◌++◌, length, get_or, take}
+use Rattle.model.specs.Table.{Table}
+use Rattle.model.specs.Level.{level_of, cost}
+use Rattle.model.specs.Job.{Job}
+use Rattle.model.specs.Power.{levels}
 
 abbrev pub Looked : (t : Table) (ws indices : List ℕ) → Type 0
-Looked t ws indices = (k : ℕ) → k < length ws → getD indices k 0 ≡ levelOf t (getD ws k 0)
+Looked t ws indices = (k : ℕ) → k < length ws → get_or indices k 0 ≡ level_of t (get_or ws k 0)
 
 abbrev pub Costed : (t : Table) (indices rates : List ℕ) → Type 0
-Costed t indices rates = (k : ℕ) → k < length indices → getD rates k 0 ≡ cost t (getD indices k 0)
+Costed t indices rates = (k : ℕ) → k < length indices → get_or rates k 0 ≡ cost t (get_or indices k 0)
 
 -- loads are laid out behind what stands in front, each has its level, and each level its cost
 pub record Prepared (t : Table) (loads before positions indices rates : List ℕ) : Type 0 where
@@ -30,14 +27,14 @@ pub record Prepared (t : Table) (loads before positions indices rates : List ℕ
   pub costed : Costed t indices rates
 
 abbrev pub Charged : (rate : ℕ → ℕ) (ws rates : List ℕ) → Type 0
-Charged rate ws rates = (k : ℕ) → k < length ws → getD rates k 0 ≡ rate (getD ws k 0)
+Charged rate ws rates = (k : ℕ) → k < length ws → get_or rates k 0 ≡ rate (get_or ws k 0)
 
 abbrev pub Below : ℕ → List ℕ → Type 0
-Below bound xs = (k : ℕ) → k < length xs → getD xs k 0 < bound
+Below bound xs = (k : ℕ) → k < length xs → get_or xs k 0 < bound
 
 abbrev pub Blank : List ℕ → Type 0
-Blank xs = (k : ℕ) → getD xs k 0 ≡ 0
+Blank xs = (k : ℕ) → get_or xs k 0 ≡ 0
 
 abbrev pub LevelNumbers : (ws plan indices : List ℕ) (islands : ℕ) (numbers : List ℕ) → Type 0
 LevelNumbers ws plan indices islands numbers =
-    (job : Job) → job .loads ≡ ws → job .islands ≡ islands → Looked (job .table) ws indices → numbers ≡ levels job plan
+    (job : Job) → job.loads ≡ ws → job.islands ≡ islands → Looked job.table ws indices → numbers ≡ levels job plan

@@ -4,38 +4,35 @@
 --     Leveled       a list of level bytes begins with those that the islands and the levels of the loads give, whatever the job's table
 --     HandedBack    the least total of a job, and both lent buffers: what is written, and behind it what they held
 -- Assumes nothing.
-use Prim.Native.Nat.{ℕ, _<_}
-use mathlib.Core.Path.{_≡_}
-use mathlib.Core.List.{List, _++_}
-use lib.ListN.{length, getD, drop}
-use Rattle·model.specs.Table.{Table}
-use Rattle·model.specs.Job.{Job}
-use Rattle·model.specs.Power.{levels}
-use Rattle·model.specs.Plan.{padded, shown}
-use Rattle·model.specs.Placement.{FastEnough}
-use Rattle·optimum.specs.Best.{best}
-use Rattle·optimum.specs.Chosen.{planRun}
-use Rattle·promises.specs.OfJob.{bestOf, planOf}
-use Rattle·planner·specs.specs.Positions.{Looked, Charged}
+use Rattle.std.specs.Prelude.{ℕ, ◌<◌, ◌≡◌, List, ◌++◌, length, get_or, drop}
+use Rattle.model.specs.Table.{Table}
+use Rattle.model.specs.Job.{Job}
+use Rattle.model.specs.Power.{levels}
+use Rattle.model.specs.Plan.{shown}
+use Rattle.model.specs.Placement.{FastEnough}
+use Rattle.optimum.specs.Best.{best}
+use Rattle.optimum.specs.Chosen.{plan_run}
+use Rattle.promises.specs.OfJob.{best_of, plan_of}
+use Rattle.planner.specs.Positions.{Looked, Charged}
 
 abbrev pub Carried : Table → List ℕ → Type 0
-Carried t ws = (k : ℕ) → k < length ws → FastEnough t (getD ws k 0)
+Carried t ws = (k : ℕ) → k < length ws → FastEnough t (get_or ws k 0)
 
 abbrev pub Solved : (Q own : ℕ) (ws rates : List ℕ) (v total : ℕ) (full : List ℕ) → Type 0
 Solved Q own ws rates v total full =
     (rate : ℕ → ℕ)
     → Charged rate ws rates
-    → (total ≡ best Q own rate ws 0 v) × (full ≡ planRun Q own rate ws 0 0 v)
+    → (total ≡ best Q own rate ws 0 v) × (full ≡ plan_run Q own rate ws 0 0 v)
 
 abbrev pub Leveled : (ws plan indices : List ℕ) (islands : ℕ) (before after : List ℕ) → Type 0
 Leveled ws plan indices islands before after =
     (job : Job)
-    → job .loads ≡ ws
-    → job .islands ≡ islands
-    → Looked (job .table) ws indices
+    → job.loads ≡ ws
+    → job.islands ≡ islands
+    → Looked job.table ws indices
     → after ≡ levels job plan ++ drop islands before
 
 pub record HandedBack (job : Job) (plan₀ levels₀ : List ℕ) (total : ℕ) (planned leveled : List ℕ) : Type 0 where
-  pub least : total ≡ bestOf job
-  pub plan-bytes : planned ≡ shown job (planOf job) ++ drop (length (job .loads)) plan₀
-  pub level-bytes : leveled ≡ levels job (shown job (planOf job)) ++ drop (job .islands) levels₀
+  pub least : total ≡ best_of job
+  pub plan_bytes : planned ≡ shown job (plan_of job) ++ drop (length job.loads) plan₀
+  pub level_bytes : leveled ≡ levels job (shown job (plan_of job)) ++ drop job.islands levels₀

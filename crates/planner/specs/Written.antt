@@ -4,28 +4,26 @@
 --     RunWritten    a run is written
 --     GapsWritten   the lowest r + 1 members of the island x are written, with m islands in the gaps below them
 -- Assumes nothing.
-use Prim.Native.Nat.{ℕ, suc, _+_, _*_, _≤_}
-use mathlib.Core.Path.{_≡_}
-use mathlib.Core.List.{List}
-use lib.Seq.{sets}
-use Rattle·optimum.specs.Chosen.{planGaps, planBy}
-use Rattle·planner·specs.specs.Positions.{Charged}
-use Rattle·planner·specs.specs.Kept.{bestAt}
-use Rattle·planner·specs.specs.Rows.{rowAt, Filling}
-use Rattle·planner·specs.specs.Bounds.{most-member, most-draw}
+use Rattle.std.specs.Prelude.{ℕ, suc, ◌+◌, ◌*◌, ◌≤◌, ◌≡◌, List}
+use Rattle.std.proofs.lemmas.List.Edits.{sets}
+use Rattle.optimum.specs.Chosen.{plan_gaps, plan_by}
+use Rattle.planner.specs.Positions.{Charged}
+use Rattle.planner.specs.Kept.{best_at}
+use Rattle.planner.specs.Rows.{row_at, Filling}
+use Rattle.planner.specs.Bounds.{most_member, most_draw}
 
 abbrev pub Low : (rows : List ℕ) (r m : ℕ) → Type 0
-Low rows r m = (s n : ℕ) → s ≤ r → n ≤ m → rowAt rows s n ≤ n * most-draw + suc s * most-member
+Low rows r m = (s n : ℕ) → s ≤ r → n ≤ m → row_at rows s n ≤ n * most_draw + suc s * most_member
 
 module _ (Q : ℕ) (ws rates bests before after : List ℕ) where
   abbrev pub RunWritten : (i base v : ℕ) → Type 0
   RunWritten i base v =
-      (rate : ℕ → ℕ) → Charged rate ws rates → after ≡ sets before i (planBy Q ws (bestAt Q bests) rate i base v)
+      (rate : ℕ → ℕ) → Charged rate ws rates → after ≡ sets before i (plan_by Q ws (best_at Q bests) rate i base v)
 
   abbrev pub GapsWritten : (rows : List ℕ) (x i base r m : ℕ) → Type 0
   GapsWritten rows x i base r m =
       (rate : ℕ → ℕ)
       → Charged rate ws rates
       → (ρ : ℕ)
-      → Filling Q ws (bestAt Q bests) ρ i rows r m
-      → after ≡ sets before i (planGaps Q ws (bestAt Q bests) (planBy Q ws (bestAt Q bests) rate) ρ x i base r m)
+      → Filling Q ws (best_at Q bests) ρ i rows r m
+      → after ≡ sets before i (plan_gaps Q ws (best_at Q bests) (plan_by Q ws (best_at Q bests) rate) ρ x i base r m)

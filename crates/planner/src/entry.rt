@@ -1,35 +1,25 @@
 // The planner's entry: a job is judged, prepared, solved and handed back, and the lent buffers are written when nothing can refuse any
 // more. `plan` asks nothing; the functions before it ask for a job that nothing refuses, or for parts of one, and every caller shows it.
-use super::bytes::copy;
-use super::bytes::number_levels;
+ghost use Rattle.std.specs.Prelude.{◌≡◌, ◌++◌, ◌*◌, ◌≤◌, length, drop};
+ghost use Rattle.model.specs.Limits.{most_islands, most_levels};
+ghost use Rattle.model.specs.Plan.{Named};
+ghost use Rattle.model.specs.Refusals.{Tried, FitSizes, RoomEnough, conditions, judged_number};
+ghost use Rattle.model.specs.Ordered.{Ordered};
+ghost use Rattle.model.specs.Answer.{number_of, total_of, Answered};
+ghost use Rattle.model.specs.Passed.{Passed};
+ghost use Rattle.model.specs.Job.{job_of};
+ghost use Rattle.planner.specs.Positions.{Below};
+ghost use Rattle.planner.specs.Bounds.{most_own, Light, Cheap};
+ghost use Rattle.planner.specs.Settled.{Solved, Leveled, HandedBack};
+
+use super::bytes::{copy, number_levels};
 use super::positions::prepare;
-use super::search::KEPT;
-use super::search::MOST_ISLANDS;
-use super::search::best_at;
-use super::search::search;
-use super::write::Run;
-use super::write::write_run;
+use super::search::{KEPT, MOST_ISLANDS, best_at, search};
+use super::write::{Run, write_run};
 use board::Board;
-use model::Judged;
-use model::Planned;
-use refusals::judge_job;
-use refusals::judge_room;
-use units::Microwatts;
-use units::Picowatts;
-ghost use mathlib.Core.Path.{_≡_};
-ghost use mathlib.Core.List.{_++_};
-ghost use Prim.Native.Nat.{_*_, _≤_};
-ghost use lib.ListN.{length, drop};
-ghost use Rattle·model.specs.Limits.{most-islands, most-levels};
-ghost use Rattle·model.specs.Plan.{Named};
-ghost use Rattle·model.specs.Refusals.{Tried, FitSizes, RoomEnough, conditions, judgedNumber};
-ghost use Rattle·model.specs.Ordered.{Ordered};
-ghost use Rattle·model.specs.Answer.{numberOf, totalOf, Answered};
-ghost use Rattle·model.specs.Passed.{Passed};
-ghost use Rattle·model.specs.Job.{jobOf};
-ghost use Rattle·planner·specs.specs.Positions.{Below};
-ghost use Rattle·planner·specs.specs.Bounds.{most-own, Light, Cheap};
-ghost use Rattle·planner·specs.specs.Settled.{Solved, Leveled, HandedBack};
+use model::{Judged, Planned};
+use refusals::{judge_job, judge_room};
+use units::{Microwatts, Picowatts};
 
 // The least total of the board, and its full plan.
 fn solve(
@@ -40,12 +30,12 @@ fn solve(
     own: Picowatts,
     full: &mut [u8],
 ) -> Picowatts
-    requires { ⌜ FitSizes islands cores ⌝ }
-    requires { ⌜ (length (now positions) ≡ islands * cores) × (length (now full) ≡ islands * cores) ⌝ }
-    requires { ⌜ Light (now positions) ⌝ }
-    requires { ⌜ Cheap (now positions) (now rates) ⌝ }
-    requires { ⌜ own .0 ≤ most-own ⌝ }
-    ensures { λ r. ⌜ Solved cores (own .0) (now (positions .entry)) (now (rates .entry)) islands (r .0) (now (full .exit)) ⌝ }
+    requires fit_sizes { FitSizes islands cores }
+    requires positions_len { (length positions.now ≡ islands * cores) × (length full.old ≡ islands * cores) }
+    requires light { Light positions.now }
+    requires cheap { Cheap positions.now rates.now }
+    requires own_le_most_own { own.0 ≤ most_own }
+    ensures { Solved cores own.0 positions.now rates.now islands result.0 full.new }
 {
     let mut bests = [0u64; KEPT];
     search(&mut bests, positions, rates, cores, own, islands);
@@ -73,15 +63,15 @@ fn hand_back(
     plan: &mut [u8],
     levels: &mut [u8],
 )
-    requires { ⌜ Ordered (now loads) ⌝ }
-    requires { ⌜ (length (now shown) ≡ length (now loads)) × (length (now indices) ≡ length (now loads)) ⌝ }
-    requires { ⌜ Named 0 islands (now shown) ⌝ }
-    requires { ⌜ Below most-levels (now indices) ⌝ }
-    requires { ⌜ (islands ≤ most-islands) × (length (now loads) ≤ length (now plan)) × (islands ≤ length (now levels)) ⌝ }
-    ensures { λ _. ⌜ now (plan .exit) ≡ now (shown .entry) ++ drop (length (now (loads .entry))) (now (plan .entry)) ⌝ }
-    ensures { λ _. ⌜ Leveled
-        (now (loads .entry)) (now (shown .entry)) (now (indices .entry)) islands
-        (now (levels .entry)) (now (levels .exit)) ⌝ }
+    requires ordered { Ordered loads.now }
+    requires shown_len { (length shown.now ≡ length loads.now) × (length indices.now ≡ length loads.now) }
+    requires named { Named 0 islands shown.now }
+    requires below { Below most_levels indices.now }
+    requires islands_le_most_islands { (islands ≤ most_islands) × (length loads.now ≤ length plan.old) × (islands ≤ length levels.old) }
+    ensures plan_after { plan.new ≡ shown.now ++ drop (length loads.now) plan.old }
+    ensures leveled { Leveled
+        loads.now shown.now indices.now islands
+        levels.old levels.new }
 {
     let mut numbers = [0u8; MOST_ISLANDS];
     number_levels(loads, shown, indices, &mut numbers[0..islands]);
@@ -100,12 +90,12 @@ fn plan_sound(
     plan: &mut [u8],
     levels: &mut [u8],
 ) -> Picowatts
-    requires { ⌜ Passed (jobOf islands cores (power .0) (now frequencies) (now powers) (now loads)) ⌝ }
-    requires { ⌜ RoomEnough islands (length (now loads)) (length (now plan)) (length (now levels)) ⌝ }
-    ensures { λ r. ⌜ HandedBack
-        (jobOf islands cores (power .0) (now (frequencies .entry)) (now (powers .entry)) (now (loads .entry)))
-        (now (plan .entry)) (now (levels .entry))
-        (r .0) (now (plan .exit)) (now (levels .exit)) ⌝ }
+    requires passed { Passed (job_of islands cores power.0 frequencies.now powers.now loads.now) }
+    requires room_enough { RoomEnough islands (length loads.now) (length plan.old) (length levels.old) }
+    ensures { HandedBack
+        (job_of islands cores power.0 frequencies.now powers.now loads.now)
+        plan.old levels.old
+        result.0 plan.new levels.new }
 {
     let places = islands * cores;
     let front = places - loads.len();
@@ -151,9 +141,9 @@ fn judge_call(
     plan_room: usize,
     level_room: usize,
 ) -> Judged
-    ensures { λ r. ⌜ Tried
-        (conditions (jobOf islands cores (power .0) (now (frequencies .entry)) (now (powers .entry)) (now (loads .entry))) «plan_room» «level_room»)
-        (judgedNumber r) ⌝ }
+    ensures { Tried
+        (conditions (job_of islands cores power.0 frequencies.now powers.now loads.now) plan_room level_room)
+        (judged_number result) }
 {
     let job = judge_job(islands, cores, power, frequencies, powers, loads);
     let Judged::Sound = job else {
@@ -174,11 +164,11 @@ pub fn plan(
     plan: &mut [u8],
     levels: &mut [u8],
 ) -> Planned
-    ensures { λ r. ⌜ Answered
-        (jobOf islands cores («island_power» .0) (now (frequencies .entry)) (now (powers .entry)) (now (loads .entry)))
-        (now (plan .entry)) (now (levels .entry))
-        (numberOf r) (totalOf r)
-        (now (plan .exit)) (now (levels .exit)) ⌝ }
+    ensures { Answered
+        (job_of islands cores island_power.0 frequencies.now powers.now loads.now)
+        plan.old levels.old
+        (number_of result) (total_of result)
+        plan.new levels.new }
 {
     let judged = judge_call(
         islands,

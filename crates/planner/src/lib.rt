@@ -1,4 +1,6 @@
 // The planner: one job in, one plan out. Assumes nothing.
+#![tactic(auto)]
+
 mod bytes;
 mod entry;
 mod positions;

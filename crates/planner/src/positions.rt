@@ -1,21 +1,18 @@
 // The positions of a board: the loads behind the padding, the level of each, and what an island is charged whose heaviest load
 // stands there. `indices` are levels counted from 0. Functions here ask for lists whose lengths go together, and `look_up` for no more
 // levels than a byte numbers; every caller within the crate shows it.
-use levels::cost;
-use levels::level;
+ghost use Rattle.std.specs.Prelude.{◌≡◌, ◌++◌, ◌-◌, ◌≤◌, length, take};
+ghost use Rattle.model.specs.Limits.{most_levels};
+ghost use Rattle.model.specs.Table.{table_of};
+ghost use Rattle.planner.specs.Positions.{Looked, Costed, Prepared};
+
+use levels::{cost, level};
 use units::Kilohertz;
-ghost use mathlib.Core.Path.{_≡_};
-ghost use mathlib.Core.List.{_++_};
-ghost use Prim.Native.Nat.{_-_, _≤_};
-ghost use lib.ListN.{length, take};
-ghost use Rattle·model.specs.Limits.{most-levels};
-ghost use Rattle·model.specs.Table.{tableOf};
-ghost use Rattle·planner·specs.specs.Positions.{Looked, Costed, Prepared};
 
 // The loads at the end of the positions; those in front keep their values.
 fn lay_out(loads: &[u64], positions: &mut [u64])
-    requires { ⌜ length (now loads) ≤ length (now positions) ⌝ }
-    ensures { λ _. ⌜ now (positions .exit) ≡ take (length (now (positions .entry)) - length (now (loads .entry))) (now (positions .entry)) ++ now (loads .entry) ⌝ }
+    requires { length loads.now ≤ length positions.old }
+    ensures { positions.new ≡ take (length positions.old - length loads.now) positions.old ++ loads.now }
 {
     let front = positions.len() - loads.len();
     let mut k = 0;
@@ -27,9 +24,9 @@ fn lay_out(loads: &[u64], positions: &mut [u64])
 
 // The level of each position, counted from 0.
 fn look_up(frequencies: &[u32], powers: &[u32], positions: &[u64], indices: &mut [u8])
-    requires { ⌜ length (now frequencies) ≤ most-levels ⌝ }
-    requires { ⌜ length (now indices) ≡ length (now positions) ⌝ }
-    ensures { λ _. ⌜ Looked (tableOf (now (frequencies .entry)) (now (powers .entry))) (now (positions .entry)) (now (indices .exit)) ⌝ }
+    requires frequencies_len_bound { length frequencies.now ≤ most_levels }
+    requires indices_len { length indices.old ≡ length positions.now }
+    ensures { Looked (table_of frequencies.now powers.now) positions.now indices.new }
 {
     let mut k = 0;
     while k < positions.len() {
@@ -40,8 +37,8 @@ fn look_up(frequencies: &[u32], powers: &[u32], positions: &[u64], indices: &mut
 
 // The cost of each position's level.
 fn charge_all(frequencies: &[u32], powers: &[u32], indices: &[u8], rates: &mut [u64])
-    requires { ⌜ length (now rates) ≡ length (now indices) ⌝ }
-    ensures { λ _. ⌜ Costed (tableOf (now (frequencies .entry)) (now (powers .entry))) (now (indices .entry)) (now (rates .exit)) ⌝ }
+    requires { length rates.old ≡ length indices.now }
+    ensures { Costed (table_of frequencies.now powers.now) indices.now rates.new }
 {
     let mut k = 0;
     while k < indices.len() {
@@ -59,12 +56,12 @@ pub(crate) fn prepare(
     indices: &mut [u8],
     rates: &mut [u64],
 )
-    requires { ⌜ length (now frequencies) ≤ most-levels ⌝ }
-    requires { ⌜ length (now loads) ≤ length (now positions) ⌝ }
-    requires { ⌜ (length (now indices) ≡ length (now positions)) × (length (now rates) ≡ length (now positions)) ⌝ }
-    ensures { λ _. ⌜ Prepared
-        (tableOf (now (frequencies .entry)) (now (powers .entry))) (now (loads .entry)) (now (positions .entry))
-        (now (positions .exit)) (now (indices .exit)) (now (rates .exit)) ⌝ }
+    requires frequencies_len_bound { length frequencies.now ≤ most_levels }
+    requires loads_in_bounds { length loads.now ≤ length positions.old }
+    requires indices_len { (length indices.old ≡ length positions.old) × (length rates.old ≡ length positions.old) }
+    ensures { Prepared
+        (table_of frequencies.now powers.now) loads.now positions.old
+        positions.new indices.new rates.new }
 {
     lay_out(loads, positions);
     look_up(frequencies, powers, positions, indices);

@@ -3,18 +3,15 @@
 // Arrays hold bare numbers (positions kilohertz, rates femtojoules per cycle, bests and rows picowatts), and each is given its unit where it is read.
 // Functions here ask for lists of the right lengths, and for loads, charges and bests so low that every sum fits in 64 bits; every caller
 // within the crate shows it.
+ghost use Rattle.std.specs.Prelude.{◌≡◌, suc, ◌+◌, ◌-◌, ◌*◌, ◌≤◌, ◌<◌, ◌^◌, length, get_or};
+ghost use Rattle.model.specs.Limits.{most_islands, most_cores, most_places};
+ghost use Rattle.optimum.specs.Best.{itself, first, least, gap_cost};
+ghost use Rattle.planner.specs.Kept.{kept_size, place, best_at, run_cost, Grown, Found};
+ghost use Rattle.planner.specs.Rows.{row_at, Filling};
+ghost use Rattle.planner.specs.Bounds.{most_own, AllBelow, Sized, Cheap, Bounded, RunFits};
+
 use board::Board;
-use units::Femtojoules;
-use units::Kilohertz;
-use units::Picowatts;
-ghost use mathlib.Core.Path.{_≡_};
-ghost use Prim.Native.Nat.{suc, _+_, _-_, _*_, _≤_, _<_, _^_};
-ghost use lib.ListN.{length, getD};
-ghost use Rattle·model.specs.Limits.{most-islands, most-cores, most-places};
-ghost use Rattle·optimum.specs.Best.{itself, first, least, gapCost};
-ghost use Rattle·planner·specs.specs.Kept.{keptSize, place, bestAt, runCost, Grown, Found};
-ghost use Rattle·planner·specs.specs.Rows.{rowAt, Filling};
-ghost use Rattle·planner·specs.specs.Bounds.{most-own, AllBelow, Sized, Cheap, Bounded, RunFits};
+use units::{Femtojoules, Kilohertz, Picowatts};
 
 // The table of bests has a place for every first and every last position.
 pub(crate) const KEPT: usize = Board::PLACES * Board::PLACES;
@@ -24,24 +21,27 @@ pub(crate) const KEPT: usize = Board::PLACES * Board::PLACES;
 pub(crate) const MOST_ISLANDS: usize = Board::ISLANDS as usize;
 
 // A gap below a member: the islands in it, and what it costs with all below it.
+#[derive(Clone, Copy)]
 pub(crate) struct Gap {
     pub(crate) islands: usize,
     pub(crate) cost: Picowatts,
 }
 
 // The place of a run of some islands in the table of bests: by its first and its last position.
+#[tactic(auto, unfolding(crate::specs::Kept::place))]
 fn place(cores: usize, start: usize, islands: usize) -> usize
-    requires { ⌜ (0 < islands * cores) × (start + islands * cores ≤ most-places) ⌝ }
-    ensures { λ r. ⌜ r ≡ place cores start islands ⌝ }
+    requires { (0 < islands * cores) × (start + islands * cores ≤ most_places) }
+    ensures { result ≡ place cores start islands }
 {
     start * Board::PLACES + (start + islands * cores - 1)
 }
 
 // What the table has for a run. A run of no islands costs nothing and has no place.
+#[tactic(auto, using(crate::proofs::Kept::place_within), unfolding(crate::specs::Kept::best_at))]
 pub(crate) fn best_at(bests: &[u64], cores: usize, start: usize, islands: usize) -> Picowatts
-    requires { ⌜ length (now bests) ≡ keptSize ⌝ }
-    requires { ⌜ (0 < cores) × (start + islands * cores ≤ most-places) ⌝ }
-    ensures { λ r. ⌜ r .0 ≡ bestAt cores (now (bests .entry)) start islands ⌝ }
+    requires bests_len { length bests.now ≡ kept_size }
+    requires cores_nonzero { (0 < cores) × (start + islands * cores ≤ most_places) }
+    ensures { result.0 ≡ best_at cores bests.now start islands }
 {
     if islands < 1 {
         return Picowatts(0);
@@ -51,22 +51,23 @@ pub(crate) fn best_at(bests: &[u64], cores: usize, start: usize, islands: usize)
 
 // What a load is charged. One kilohertz at one femtojoule per cycle is one picowatt.
 fn load_charge(rate: Femtojoules, load: Kilohertz) -> Picowatts
-    requires { ⌜ rate .0 * load .0 < 2 ^ 64 ⌝ }
-    ensures { λ r. ⌜ r .0 ≡ rate .0 * load .0 ⌝ }
+    requires { rate.0 * load.0 < 2 ^ 64 }
+    ensures { result.0 ≡ rate.0 * load.0 }
 {
     Picowatts(rate.0 * load.0)
 }
 
 // What a member at a position is charged, with what the rest costs.
 fn with_member(positions: &[u64], at: usize, rate: Femtojoules, rest: Picowatts) -> Picowatts
-    requires { ⌜ at < length (now positions) ⌝ }
-    requires { ⌜ rate .0 * getD (now positions) at 0 + rest .0 < 2 ^ 64 ⌝ }
-    ensures { λ r. ⌜ r .0 ≡ rate .0 * getD (now (positions .entry)) at 0 + rest .0 ⌝ }
+    requires at_in_bounds { at < length positions.now }
+    requires rest_bound { rate.0 * get_or positions.now at 0 + rest.0 < 2 ^ 64 }
+    ensures { result.0 ≡ rate.0 * get_or positions.now at 0 + rest.0 }
 {
     Picowatts(load_charge(rate, Kilohertz(positions[at])).0 + rest.0)
 }
 
 // What the gap below the highest of r + 2 members costs with all below it, if g of the m islands stand in the gap.
+#[tactic(auto, unfolding(optimum::specs::Best::gap_cost, crate::specs::Rows::row_at))]
 fn gap_cost(
     bests: &[u64],
     rows: &[u64],
@@ -76,10 +77,10 @@ fn gap_cost(
     m: usize,
     g: usize,
 ) -> Picowatts
-    requires { ⌜ (length (now bests) ≡ keptSize) × (length (now rows) ≡ most-places) ⌝ }
-    requires { ⌜ (0 < cores) × (r < most-cores) × (m < most-islands) × (g ≤ m) × (start + (m * cores + suc r) ≤ most-places) ⌝ }
-    requires { ⌜ gapCost cores (bestAt cores (now bests)) (rowAt (now rows) r) start r m g < 2 ^ 64 ⌝ }
-    ensures { λ c. ⌜ c .0 ≡ gapCost cores (bestAt cores (now (bests .entry))) (rowAt (now (rows .entry)) r) start r m g ⌝ }
+    requires bests_len { (length bests.now ≡ kept_size) × (length rows.now ≡ most_places) }
+    requires cores_nonzero { (0 < cores) × (r < most_cores) × (m < most_islands) × (g ≤ m) × (start + (m * cores + suc r) ≤ most_places) }
+    requires g_bound { gap_cost cores (best_at cores bests.now) (row_at rows.now r) start r m g < 2 ^ 64 }
+    ensures { result.0 ≡ gap_cost cores (best_at cores bests.now) (row_at rows.now r) start r m g }
 {
     let left = m - g;
     let gap = best_at(bests, cores, start + (left * cores + (r + 1)), g);
@@ -88,6 +89,7 @@ fn gap_cost(
 }
 
 // The smallest gap that costs least.
+#[tactic(auto, unfolding(optimum::specs::Best::first, optimum::specs::Best::least))]
 pub(crate) fn least_gap(
     bests: &[u64],
     rows: &[u64],
@@ -96,11 +98,11 @@ pub(crate) fn least_gap(
     r: usize,
     m: usize,
 ) -> Gap
-    requires { ⌜ (length (now bests) ≡ keptSize) × (length (now rows) ≡ most-places) ⌝ }
-    requires { ⌜ (0 < cores) × (r < most-cores) × (m < most-islands) × (start + (m * cores + suc r) ≤ most-places) ⌝ }
-    requires { ⌜ AllBelow (2 ^ 64) m (gapCost cores (bestAt cores (now bests)) (rowAt (now rows) r) start r m) ⌝ }
-    ensures { λ c. ⌜ c .islands ≡ first m (gapCost cores (bestAt cores (now (bests .entry))) (rowAt (now (rows .entry)) r) start r m) ⌝ }
-    ensures { λ c. ⌜ c .cost .0 ≡ least m (gapCost cores (bestAt cores (now (bests .entry))) (rowAt (now (rows .entry)) r) start r m) ⌝ }
+    requires bests_len { (length bests.now ≡ kept_size) × (length rows.now ≡ most_places) }
+    requires cores_nonzero { (0 < cores) × (r < most_cores) × (m < most_islands) × (start + (m * cores + suc r) ≤ most_places) }
+    requires all_below { AllBelow (2 ^ 64) m (gap_cost cores (best_at cores bests.now) (row_at rows.now r) start r m) }
+    ensures islands_value { result.islands ≡ first m (gap_cost cores (best_at cores bests.now) (row_at rows.now r) start r m) }
+    ensures cost_value { result.cost.0 ≡ least m (gap_cost cores (best_at cores bests.now) (row_at rows.now r) start r m) }
 {
     let mut islands = 0;
     let mut cost = gap_cost(bests, rows, cores, start, r, m, 0).0;
@@ -129,9 +131,9 @@ fn lowest_row(
     rate: Femtojoules,
     m: usize,
 )
-    requires { ⌜ RunFits cores (rate .0) start m (now positions) (now bests) ⌝ }
-    requires { ⌜ length (now rows) ≡ most-places ⌝ }
-    ensures { λ _. ⌜ Filling cores (now (positions .entry)) (bestAt cores (now (bests .entry))) (rate .0) start (now (rows .exit)) 0 m ⌝ }
+    requires run_fits { RunFits cores rate.0 start m positions.now bests.now }
+    requires rows_len { length rows.old ≡ most_places }
+    ensures { Filling cores positions.now (best_at cores bests.now) rate.0 start rows.new 0 m }
 {
     let mut n = 0;
     while n <= m {
@@ -140,7 +142,8 @@ fn lowest_row(
             start + n * cores,
             rate,
             best_at(bests, cores, start, n),
-        ).0;
+        )
+        .0;
         n += 1;
     }
 }
@@ -156,11 +159,11 @@ fn next_row(
     r: usize,
     m: usize,
 )
-    requires { ⌜ RunFits cores (rate .0) start m (now positions) (now bests) ⌝ }
-    requires { ⌜ length (now rows) ≡ most-places ⌝ }
-    requires { ⌜ suc r < cores ⌝ }
-    requires { ⌜ Filling cores (now positions) (bestAt cores (now bests)) (rate .0) start (now rows) r m ⌝ }
-    ensures { λ _. ⌜ Filling cores (now (positions .entry)) (bestAt cores (now (bests .entry))) (rate .0) start (now (rows .exit)) (suc r) m ⌝ }
+    requires run_fits { RunFits cores rate.0 start m positions.now bests.now }
+    requires rows_len { length rows.old ≡ most_places }
+    requires r_bound { suc r < cores }
+    requires filling { Filling cores positions.now (best_at cores bests.now) rate.0 start rows.old r m }
+    ensures { Filling cores positions.now (best_at cores bests.now) rate.0 start rows.new (suc r) m }
 {
     let mut n = 0;
     while n <= m {
@@ -185,9 +188,9 @@ pub(crate) fn fill_rows(
     rate: Femtojoules,
     m: usize,
 )
-    requires { ⌜ RunFits cores (rate .0) start m (now positions) (now bests) ⌝ }
-    requires { ⌜ length (now rows) ≡ most-places ⌝ }
-    ensures { λ _. ⌜ Filling cores (now (positions .entry)) (bestAt cores (now (bests .entry))) (rate .0) start (now (rows .exit)) (cores - 1) m ⌝ }
+    requires run_fits { RunFits cores rate.0 start m positions.now bests.now }
+    requires rows_len { length rows.old ≡ most_places }
+    ensures { Filling cores positions.now (best_at cores bests.now) rate.0 start rows.new (cores - 1) m }
 {
     lowest_row(bests, positions, rows, cores, start, rate, m);
     let mut r = 0;
@@ -198,8 +201,9 @@ pub(crate) fn fill_rows(
 }
 
 // What an island draws by itself: nothing where its heaviest load is 0.
+#[tactic(auto, unfolding(optimum::specs::Best::itself))]
 fn by_itself(own: Picowatts, top: Kilohertz) -> Picowatts
-    ensures { λ r. ⌜ r .0 ≡ itself (own .0) (top .0) ⌝ }
+    ensures { result.0 ≡ itself own.0 top.0 }
 {
     if top.0 < 1 {
         return Picowatts(0);
@@ -218,10 +222,10 @@ fn run_cost(
     start: usize,
     m: usize,
 ) -> Picowatts
-    requires { ⌜ RunFits cores (getD (now rates) (start + (m * cores + (cores - 1))) 0) start m (now positions) (now bests) ⌝ }
-    requires { ⌜ (length (now rates) ≡ length (now positions)) × (own .0 ≤ most-own) ⌝ }
-    requires { ⌜ length (now rows) ≡ most-places ⌝ }
-    ensures { λ r. ⌜ r .0 ≡ runCost cores (own .0) (now (positions .entry)) (now (rates .entry)) (bestAt cores (now (bests .entry))) start m ⌝ }
+    requires run_fits { RunFits cores (get_or rates.now (start + (m * cores + (cores - 1))) 0) start m positions.now bests.now }
+    requires rates_len { (length rates.now ≡ length positions.now) × (own.0 ≤ most_own) }
+    requires rows_len { length rows.old ≡ most_places }
+    ensures { result.0 ≡ run_cost cores own.0 positions.now rates.now (best_at cores bests.now) start m }
 {
     let last = start + (m * cores + (cores - 1));
     fill_rows(
@@ -239,6 +243,7 @@ fn run_cost(
 }
 
 // All runs of m + 1 islands, added to a table that has the shorter ones.
+#[tactic(auto, using(crate::proofs::Kept::place_within))]
 fn runs_of(
     bests: &mut [u64],
     positions: &[u64],
@@ -248,12 +253,12 @@ fn runs_of(
     own: Picowatts,
     m: usize,
 )
-    requires { ⌜ Sized cores (now positions) (now bests) ⌝ }
-    requires { ⌜ Cheap (now positions) (now rates) ⌝ }
-    requires { ⌜ (own .0 ≤ most-own) × (m < most-islands) ⌝ }
-    requires { ⌜ length (now rows) ≡ most-places ⌝ }
-    requires { ⌜ Bounded cores (now positions) (now bests) m ⌝ }
-    ensures { λ _. ⌜ Grown cores (own .0) (now (positions .entry)) (now (rates .entry)) (now (bests .entry)) (now (bests .exit)) m ⌝ }
+    requires sized { Sized cores positions.now bests.old }
+    requires cheap { Cheap positions.now rates.now }
+    requires own_le_most_own { (own.0 ≤ most_own) × (m < most_islands) }
+    requires rows_len { length rows.old ≡ most_places }
+    requires bounded { Bounded cores positions.now bests.old m }
+    ensures { Grown cores own.0 positions.now rates.now bests.old bests.new m }
 {
     let size = (m + 1) * cores;
     let mut start = 0;
@@ -273,11 +278,11 @@ pub(crate) fn search(
     own: Picowatts,
     islands: usize,
 )
-    requires { ⌜ Sized cores (now positions) (now bests) ⌝ }
-    requires { ⌜ Cheap (now positions) (now rates) ⌝ }
-    requires { ⌜ (own .0 ≤ most-own) × (islands ≤ most-islands) ⌝ }
-    ensures { λ _. ⌜ Found cores (own .0) (now (positions .entry)) (now (rates .entry)) (now (bests .exit)) islands ⌝ }
-    ensures { λ _. ⌜ Bounded cores (now (positions .entry)) (now (bests .exit)) islands ⌝ }
+    requires sized { Sized cores positions.now bests.old }
+    requires cheap { Cheap positions.now rates.now }
+    requires own_le_most_own { (own.0 ≤ most_own) × (islands ≤ most_islands) }
+    ensures found { Found cores own.0 positions.now rates.now bests.new islands }
+    ensures bounded { Bounded cores positions.now bests.new islands }
 {
     let mut rows = [0u64; Board::PLACES];
     let mut m = 0;

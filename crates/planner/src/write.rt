@@ -2,19 +2,18 @@
 // From the highest member down, each gap gets the fewest islands that attain the least total: so members are greatest at the first
 // difference. Functions here ask for a plan as long as the positions, for a run within them, and for bests, charges and rows so low that
 // every sum fits in 64 bits; every caller within the crate shows it.
-use super::search::fill_rows;
-use super::search::least_gap;
+ghost use Rattle.std.specs.Prelude.{◌≡◌, suc, ◌+◌, ◌*◌, ◌≤◌, ◌<◌, length};
+ghost use Rattle.model.specs.Limits.{most_islands, most_places};
+ghost use Rattle.planner.specs.Bounds.{Sized, Cheap, Bounded};
+ghost use Rattle.planner.specs.Written.{Low, RunWritten, GapsWritten};
+
+use super::search::{fill_rows, least_gap};
 use board::Board;
 use units::Femtojoules;
-ghost use mathlib.Core.Path.{_≡_};
-ghost use Prim.Native.Nat.{suc, _+_, _*_, _≤_, _<_};
-ghost use lib.ListN.{length};
-ghost use Rattle·model.specs.Limits.{most-islands, most-places};
-ghost use Rattle·planner·specs.specs.Bounds.{Sized, Cheap, Bounded};
-ghost use Rattle·planner·specs.specs.Written.{Low, RunWritten, GapsWritten};
 
 // A run: its first position, its islands, and the number of the island before its lowest. Below a member, the runs in the gaps count
 // as one: their islands are numbered from the lowest gap up.
+#[derive(Clone, Copy)]
 pub(crate) struct Run {
     pub(crate) start: usize,
     pub(crate) islands: usize,
@@ -22,6 +21,7 @@ pub(crate) struct Run {
 }
 
 // Writes the island numbers of a run: its top island has the highest.
+#[cycle(write_gaps_write_run)]
 pub(crate) fn write_run(
     full: &mut [u8],
     bests: &[u64],
@@ -30,12 +30,12 @@ pub(crate) fn write_run(
     cores: usize,
     run: Run,
 )
-    requires { ⌜ Sized cores (now positions) (now bests) ⌝ }
-    requires { ⌜ Cheap (now positions) (now rates) ⌝ }
-    requires { ⌜ Bounded cores (now positions) (now bests) (run .islands) ⌝ }
-    requires { ⌜ length (now full) ≡ length (now positions) ⌝ }
-    requires { ⌜ (run .base + run .islands ≤ most-islands) × (run .start + run .islands * cores ≤ length (now positions)) ⌝ }
-    ensures { λ _. ⌜ RunWritten cores (now (positions .entry)) (now (rates .entry)) (now (bests .entry)) (now (full .entry)) (now (full .exit)) (run .start) (run .base) (run .islands) ⌝ }
+    requires sized { Sized cores positions.now bests.now }
+    requires cheap { Cheap positions.now rates.now }
+    requires bounded { Bounded cores positions.now bests.now run.islands }
+    requires full_len { length full.old ≡ length positions.now }
+    requires islands_bound { (run.base + run.islands ≤ most_islands) × (run.start + run.islands * cores ≤ length positions.now) }
+    ensures { RunWritten cores positions.now rates.now bests.now full.old full.new run.start run.base run.islands }
 {
     let start = run.start;
     let islands = run.islands;
@@ -73,6 +73,7 @@ pub(crate) fn write_run(
 }
 
 // Writes the lowest r + 1 members of an island, and the runs in the gaps below them.
+#[cycle(write_gaps_write_run)]
 fn write_gaps(
     full: &mut [u8],
     bests: &[u64],
@@ -84,14 +85,14 @@ fn write_gaps(
     r: usize,
     top: usize,
 )
-    requires { ⌜ Sized cores (now positions) (now bests) ⌝ }
-    requires { ⌜ Cheap (now positions) (now rates) ⌝ }
-    requires { ⌜ Bounded cores (now positions) (now bests) (below .islands) ⌝ }
-    requires { ⌜ length (now full) ≡ length (now positions) ⌝ }
-    requires { ⌜ length (now rows) ≡ most-places ⌝ }
-    requires { ⌜ Low (now rows) r (below .islands) ⌝ }
-    requires { ⌜ (below .base + below .islands < most-islands) × (top ≤ most-islands) × (r < cores) × (below .start + (below .islands * cores + suc r) ≤ length (now positions)) ⌝ }
-    ensures { λ _. ⌜ GapsWritten cores (now (positions .entry)) (now (rates .entry)) (now (bests .entry)) (now (full .entry)) (now (full .exit)) (now (rows .entry)) top (below .start) (below .base) r (below .islands) ⌝ }
+    requires sized { Sized cores positions.now bests.now }
+    requires cheap { Cheap positions.now rates.now }
+    requires bounded { Bounded cores positions.now bests.now below.islands }
+    requires full_len { length full.old ≡ length positions.now }
+    requires rows_len { length rows.now ≡ most_places }
+    requires low { Low rows.now r below.islands }
+    requires islands_bound { (below.base + below.islands < most_islands) × (top ≤ most_islands) × (r < cores) × (below.start + (below.islands * cores + suc r) ≤ length positions.now) }
+    ensures { GapsWritten cores positions.now rates.now bests.now full.old full.new rows.now top below.start below.base r below.islands }
 {
     let start = below.start;
     let m = below.islands;

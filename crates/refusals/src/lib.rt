@@ -1,26 +1,23 @@
 // Whether a job or a part of one is refused, and by which cause: the causes of each part are tried in their order, and nothing is written.
 // All judging is done here; these functions take any numbers and ask nothing.
+#![tactic(auto)]
+
 mod loads;
 mod table;
 
-use self::loads::few_enough;
-use self::loads::ordered;
-use self::loads::slow_enough;
-use self::table::not_falling;
-use self::table::well_ranged;
-use self::table::well_shaped;
-use board::Board;
-use board::NewBoard;
-use model::Judged;
-use model::Refusal;
+ghost use Rattle.model.specs.Refusals.{Tried, table_conditions, board_conditions, load_conditions, room_conditions, job_conditions, judged_number};
+ghost use Rattle.model.specs.Table.{table_of};
+ghost use Rattle.model.specs.Job.{job_of};
+
+use self::loads::{few_enough, ordered, slow_enough};
+use self::table::{not_falling, well_ranged, well_shaped};
+use board::{Board, NewBoard};
+use model::{Judged, Refusal};
 use units::Microwatts;
-ghost use Rattle·model.specs.Refusals.{Tried, tableConditions, boardConditions, loadConditions, roomConditions, jobConditions, judgedNumber};
-ghost use Rattle·model.specs.Table.{tableOf};
-ghost use Rattle·model.specs.Job.{jobOf};
 
 // Whether a table is sound; if not, the first of the causes 2, 3 and 4 that applies.
 pub fn judge_table(frequencies: &[u32], powers: &[u32]) -> Judged
-    ensures { λ r. ⌜ Tried (tableConditions (tableOf (now (frequencies .entry)) (now (powers .entry)))) (judgedNumber r) ⌝ }
+    ensures { Tried (table_conditions (table_of frequencies.now powers.now)) (judged_number result) }
 {
     if !well_shaped(frequencies, powers) {
         return Judged::Refused(Refusal::Levels);
@@ -42,7 +39,7 @@ pub fn judge_board(
     frequencies: &[u32],
     powers: &[u32],
 ) -> Judged
-    ensures { λ r. ⌜ Tried (boardConditions islands cores (power .0) (tableOf (now (frequencies .entry)) (now (powers .entry)))) (judgedNumber r) ⌝ }
+    ensures { Tried (board_conditions islands cores power.0 (table_of frequencies.now powers.now)) (judged_number result) }
 {
     let board = match Board::new(islands, cores, power) {
         NewBoard::Made(board) => board,
@@ -60,7 +57,7 @@ pub fn judge_board(
 
 // The same of the loads, with theirs, 6 to 8.
 pub fn judge_loads(islands: u64, cores: u64, frequencies: &[u32], loads: &[u64]) -> Judged
-    ensures { λ r. ⌜ Tried (loadConditions islands cores (now (frequencies .entry)) (now (loads .entry))) (judgedNumber r) ⌝ }
+    ensures { Tried (load_conditions islands cores frequencies.now loads.now) (judged_number result) }
 {
     if !few_enough(islands, cores, loads.len()) {
         return Judged::Refused(Refusal::Count);
@@ -83,7 +80,7 @@ pub fn judge_job(
     powers: &[u32],
     loads: &[u64],
 ) -> Judged
-    ensures { λ r. ⌜ Tried (jobConditions (jobOf islands cores (power .0) (now (frequencies .entry)) (now (powers .entry)) (now (loads .entry)))) (judgedNumber r) ⌝ }
+    ensures { Tried (job_conditions (job_of islands cores power.0 frequencies.now powers.now loads.now)) (judged_number result) }
 {
     let board = judge_board(islands, cores, power, frequencies, powers);
     let Judged::Sound = board else {
@@ -94,7 +91,7 @@ pub fn judge_job(
 
 // The same of the room that two lent buffers have for a job's plan: 9.
 pub fn judge_room(islands: u64, loads: usize, plan_room: usize, level_room: usize) -> Judged
-    ensures { λ r. ⌜ Tried (roomConditions islands loads «plan_room» «level_room») (judgedNumber r) ⌝ }
+    ensures { Tried (room_conditions islands loads plan_room level_room) (judged_number result) }
 {
     if plan_room < loads {
         return Judged::Refused(Refusal::Buffers);

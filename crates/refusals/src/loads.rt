@@ -1,14 +1,14 @@
 // What the causes 6 to 8 ask of the loads, as tests of any numbers. They ask nothing.
+ghost use Rattle.std.specs.Prelude.{◌≡◌, ◌*◌, ◌≤◌};
+ghost use Rattle.model.specs.Tells.{Tells};
+ghost use Rattle.model.specs.Ordered.{Ordered, last_of};
+
 use units::Kilohertz;
-ghost use mathlib.Core.Path.{_≡_};
-ghost use Prim.Native.Nat.{_*_, _≤_};
-ghost use Rattle·model.specs.Tells.{Tells};
-ghost use Rattle·model.specs.Ordered.{Ordered, lastOf};
 
 // Whether there are no more loads than places. The places are not counted, because any two sizes may be asked for: of n loads all but one
 // fill fewer than V islands of Q cores exactly where all of them have a place.
 pub(crate) fn few_enough(islands: u64, cores: u64, loads: usize) -> bool
-    ensures { λ r. ⌜ Tells r (loads ≤ islands * cores) ⌝ }
+    ensures { Tells result (loads ≤ islands * cores) }
 {
     if loads < 1 {
         return true;
@@ -21,7 +21,7 @@ pub(crate) fn few_enough(islands: u64, cores: u64, loads: usize) -> bool
 
 // Whether no load is below the one before it.
 pub(crate) fn ordered(loads: &[u64]) -> bool
-    ensures { λ r. ⌜ Tells r (Ordered (now (loads .entry))) ⌝ }
+    ensures { Tells result (Ordered loads.now) }
 {
     let mut k = 0;
     while k + 1 < loads.len() {
@@ -35,7 +35,7 @@ pub(crate) fn ordered(loads: &[u64]) -> bool
 
 // The last frequency, which is the highest of a table that is not refused; 0 without levels.
 fn last_frequency(frequencies: &[u32]) -> Kilohertz
-    ensures { λ r. ⌜ r .0 ≡ lastOf (now (frequencies .entry)) ⌝ }
+    ensures { result.0 ≡ last_of frequencies.now }
 {
     let levels = frequencies.len();
     if levels < 1 {
@@ -46,7 +46,7 @@ fn last_frequency(frequencies: &[u32]) -> Kilohertz
 
 // Whether the last load is within the last frequency; a list without loads is.
 pub(crate) fn slow_enough(frequencies: &[u32], loads: &[u64]) -> bool
-    ensures { λ r. ⌜ Tells r (lastOf (now (loads .entry)) ≤ lastOf (now (frequencies .entry))) ⌝ }
+    ensures { Tells result (last_of loads.now ≤ last_of frequencies.now) }
 {
     let n = loads.len();
     if n < 1 {

@@ -1,14 +1,11 @@
 // What the causes 2 to 4 ask of a level table, as tests.
 // The two lists are lent as the caller has them; a value is wrapped in its unit where it is multiplied, and range and order are tested on
 // the bare numbers. `not_falling` asks for lists of one length, which is tried before it.
-use units::Kilohertz;
-use units::Microwatts;
-ghost use mathlib.Core.Path.{_≡_};
-ghost use Prim.Native.Nat.{_+_, _*_, _<_, _^_};
-ghost use lib.Dec.{ltb};
-ghost use lib.ListN.{length, getD};
-ghost use Rattle·model.specs.Tells.{Tells};
-ghost use Rattle·model.specs.Table.{WellShaped, Between, Rising, WellRanged, NotFalling, tableOf};
+ghost use Rattle.std.specs.Prelude.{◌≡◌, ◌+◌, ◌*◌, ◌<◌, ◌^◌, ltb, length, get_or};
+ghost use Rattle.model.specs.Tells.{Tells};
+ghost use Rattle.model.specs.Table.{WellShaped, Between, Rising, WellRanged, NotFalling, table_of};
+
+use units::{Kilohertz, Microwatts};
 
 const MOST_LEVELS: usize = 32;
 
@@ -22,7 +19,7 @@ const MOST_POWER: u32 = 10000000;
 
 // Whether there are some levels, not too many, and as many powers as frequencies.
 pub(crate) fn well_shaped(frequencies: &[u32], powers: &[u32]) -> bool
-    ensures { λ r. ⌜ Tells r (WellShaped (tableOf (now (frequencies .entry)) (now (powers .entry)))) ⌝ }
+    ensures { Tells result (WellShaped (table_of frequencies.now powers.now)) }
 {
     if frequencies.len() < 1 {
         return false;
@@ -35,7 +32,7 @@ pub(crate) fn well_shaped(frequencies: &[u32], powers: &[u32]) -> bool
 
 // Whether every value is at least low and at most high.
 fn between(values: &[u32], low: u32, high: u32) -> bool
-    ensures { λ r. ⌜ Tells r (Between low high (now (values .entry))) ⌝ }
+    ensures { Tells result (Between low high values.now) }
 {
     let mut k = 0;
     while k < values.len() {
@@ -53,7 +50,7 @@ fn between(values: &[u32], low: u32, high: u32) -> bool
 
 // Whether every value is above the one before it.
 fn rising(values: &[u32]) -> bool
-    ensures { λ r. ⌜ Tells r (Rising (now (values .entry))) ⌝ }
+    ensures { Tells result (Rising values.now) }
 {
     let mut k = 0;
     while k + 1 < values.len() {
@@ -67,7 +64,7 @@ fn rising(values: &[u32]) -> bool
 
 // Whether all frequencies and powers are in range and the frequencies rise.
 pub(crate) fn well_ranged(frequencies: &[u32], powers: &[u32]) -> bool
-    ensures { λ r. ⌜ Tells r (WellRanged (tableOf (now (frequencies .entry)) (now (powers .entry)))) ⌝ }
+    ensures { Tells result (WellRanged (table_of frequencies.now powers.now)) }
 {
     if !between(frequencies, LEAST_FREQUENCY, MOST_FREQUENCY) {
         return false;
@@ -85,18 +82,18 @@ fn falls(
     next_frequency: Kilohertz,
     next_power: Microwatts,
 ) -> bool
-    requires { ⌜ (frequency .0 < 2 ^ 32) × («next_frequency» .0 < 2 ^ 32) ⌝ }
-    ensures { λ r. ⌜ r ≡ ltb («next_power» .0 * frequency .0) (power .0 * «next_frequency» .0) ⌝ }
+    requires { (frequency.0 < 2 ^ 32) × (next_frequency.0 < 2 ^ 32) }
+    ensures { result ≡ ltb (next_power.0 * frequency.0) (power.0 * next_frequency.0) }
 {
     (next_power.0 as u64) * frequency.0 < (power.0 as u64) * next_frequency.0
 }
 
 // Whether it falls from the level k to the next.
 fn falls_at(frequencies: &[u32], powers: &[u32], k: usize) -> bool
-    requires { ⌜ (length (now powers) ≡ length (now frequencies)) × (k + 1 < length (now frequencies)) ⌝ }
-    ensures { λ r. ⌜ r ≡ ltb
-        (getD (now (powers .entry)) (k + 1) 0 * getD (now (frequencies .entry)) k 0)
-        (getD (now (powers .entry)) k 0 * getD (now (frequencies .entry)) (k + 1) 0) ⌝ }
+    requires { (length powers.now ≡ length frequencies.now) × (k + 1 < length frequencies.now) }
+    ensures { result ≡ ltb
+        (get_or powers.now (k + 1) 0 * get_or frequencies.now k 0)
+        (get_or powers.now k 0 * get_or frequencies.now (k + 1) 0) }
 {
     let next = k + 1;
     falls(
@@ -109,8 +106,8 @@ fn falls_at(frequencies: &[u32], powers: &[u32], k: usize) -> bool
 
 // Whether power over frequency falls nowhere in the table.
 pub(crate) fn not_falling(frequencies: &[u32], powers: &[u32]) -> bool
-    requires { ⌜ length (now powers) ≡ length (now frequencies) ⌝ }
-    ensures { λ r. ⌜ Tells r (NotFalling (tableOf (now (frequencies .entry)) (now (powers .entry)))) ⌝ }
+    requires { length powers.now ≡ length frequencies.now }
+    ensures { Tells result (NotFalling (table_of frequencies.now powers.now)) }
 {
     let mut k = 0;
     while k + 1 < frequencies.len() {

@@ -1,0 +1,17 @@
+-- `copy`: one byte more is one more of the list in front of the other, and at the end it is the whole. Assumes nothing.
+use Rattle.std.proofs.Common.{refl, arith, length-set}
+use Rattle.planner.proofs.Loops.{pasted_none, pasted_more, pasted_front}
+use Rattle.planner.proofs.bytes.copy.Goals as goal
+
+pub loop-k-init : goal.loop-k-init
+loop-k-init c = (omega arith, refl, pasted_none _ _ _)
+
+pub loop-k-preserved : goal.loop-k-preserved
+loop-k-preserved c = (
+  omega arith,
+  simp length-set c.loop-k.invariant.1,
+  pasted_more _ 0 _ _ _ _ c.loop-k.invariant.2 (omega arith) (omega arith) (omega arith),
+)
+
+pub returns : goal.returns
+returns c = pasted_front _ _ _ _ c.loop-k.invariant.2 (omega arith)

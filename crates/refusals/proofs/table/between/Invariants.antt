@@ -1,0 +1,10 @@
+-- The loop of `between`: every value before k is in range. Assumes nothing.
+use Rattle.std.proofs.Common.{length, ◌-◌, ◌<◌, get_or, ℕ, ◌≤◌}
+use Rattle.refusals.proofs.table.between.Given as goal
+
+abbrev pub invariant-loop-k : goal.invariant-loop-k
+invariant-loop-k l =
+    (l.k ≤ length l.values) × ((j : ℕ) → j < l.k → (l.low ≤ get_or l.values j 0) × (get_or l.values j 0 ≤ l.high))
+
+abbrev pub decreases-loop-k : goal.decreases-loop-k
+decreases-loop-k l = length l.values - l.k
