@@ -18,7 +18,11 @@ pub extern "C" fn mizhgavul_plan(
     levels: &mut [u8],
     total_pw: &mut u64,
 ) -> u32
-    ensures { Answered (job_of islands cores island_power_uw frequencies_khz.now powers_uw.now loads_khz.now) plan.old levels.old result total_pw.new plan.new levels.new }
+    ensures { Answered
+        (job_of islands cores island_power_uw frequencies_khz.now powers_uw.now loads_khz.now)
+        plan.old levels.old
+        result total_pw.new
+        plan.new levels.new }
 {
     mizhgavul::mizhgavul_plan(
         islands,
