@@ -1,7 +1,7 @@
 -- No second answer fits a call of these functions: each contract is an equation for the only field, or for the bool.
---     of_level_one     two answers of `Kilohertz::of_level` to one frequency are equal
---     carries_one      two of `Kilohertz::carries` to one level and one load
---     picowatts_one    two of `Microwatts::picowatts` to one power
+--     of_level_one     two kilohertz that a level's frequency is made into are equal
+--     carries_one      two answers of `Kilohertz::carries` to one level and one load
+--     picowatts_one    two picowatts that one power is made into
 -- The premises are the equations of the contracts. Assumes nothing.
 use Prim.Native.Nat.{ℕ, ◌*◌}
 use mathlib.Core.Path.{◌≡◌, sym, ap, ◌∙◌}
