@@ -89,7 +89,7 @@ fn settle(
         &rates[0..places],
         islands,
         cores,
-        power.picowatts(),
+        Picowatts::from(power),
         full,
     )
 }

@@ -9,7 +9,7 @@ ghost use Rattle.table.specs.Judged.{table_of};
 ghost use Rattle.planner.specs.Positions.{Looked, Costed, Below};
 
 use table::level;
-use units::{Femtojoules, Kilohertz, Microwatts};
+use units::{Femtojoules, Kilohertz, Microwatts, Picowatts};
 
 // The loads at the end of the positions; those in front keep their values.
 pub(crate) fn lay_out(loads: &[u64], positions: &mut [u64])
@@ -43,7 +43,7 @@ fn cost(frequency: Kilohertz, power: Microwatts) -> Femtojoules
     ensures { result.0 ≡ rounded_up (power.0 * million) frequency.0 }
 {
     let f = frequency.0;
-    let picowatts = power.picowatts().0;
+    let picowatts = Picowatts::from(power).0;
     Femtojoules((picowatts + (f - 1)) / f)
 }
 
@@ -55,7 +55,7 @@ fn cost_at(frequencies: &[u32], powers: &[u32], step: u8) -> Femtojoules
     ensures { result.0 ≡ cost (table_of frequencies.now powers.now) step }
 {
     let k = step as usize;
-    cost(Kilohertz::of_level(frequencies[k]), Microwatts(powers[k]))
+    cost(Kilohertz::from(frequencies[k]), Microwatts(powers[k]))
 }
 
 // The cost of each position's level.

@@ -35,7 +35,7 @@ fn slow_enough(frequencies: &[u32], loads: &[u64]) -> bool
         return true;
     }
     let levels = frequencies.len();
-    Kilohertz::of_level(frequencies[levels - 1]).carries(Kilohertz(loads[n - 1]))
+    Kilohertz::from(frequencies[levels - 1]).carries(Kilohertz(loads[n - 1]))
 }
 
 // Causes 1 to 5: the board and the table.

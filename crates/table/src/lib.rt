@@ -109,9 +109,9 @@ fn falls_at(frequencies: &[u32], powers: &[u32], k: usize) -> bool
 {
     let next = k + 1;
     falls(
-        Kilohertz::of_level(frequencies[k]),
+        Kilohertz::from(frequencies[k]),
         Microwatts(powers[k]),
-        Kilohertz::of_level(frequencies[next]),
+        Kilohertz::from(frequencies[next]),
         Microwatts(powers[next]),
     )
 }
@@ -152,7 +152,7 @@ fn carries_at(frequencies: &[u32], k: usize, load: Kilohertz) -> bool
     requires { k < length frequencies.now }
     ensures { result ≡ leb load.0 (get_or frequencies.now k 0) }
 {
-    Kilohertz::of_level(frequencies[k]).carries(load)
+    Kilohertz::from(frequencies[k]).carries(load)
 }
 
 // The lowest level whose frequency is at least the load, counted from 0, or the number of levels where there is none.

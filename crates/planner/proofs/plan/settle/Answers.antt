@@ -52,7 +52,7 @@ returns c =
     record {
       looked = c.look_up.ensures;
       result_value =
-          solved.0 ∙ ap (λ (o : ℕ). best c.args.cores o rate c.args.positions.now 0 c.args.islands) c.picowatts.ensures;
+          solved.0 ∙ ap (λ (o : ℕ). best c.args.cores o rate c.args.positions.now 0 c.args.islands) c.from.ensures;
       full_after =
-          solved.1 ∙ ap (λ (o : ℕ). plan_run c.args.cores o rate c.args.positions.now 0 0 c.args.islands) c.picowatts.ensures;
+          solved.1 ∙ ap (λ (o : ℕ). plan_run c.args.cores o rate c.args.positions.now 0 0 c.args.islands) c.from.ensures;
     }

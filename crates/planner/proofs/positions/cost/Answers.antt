@@ -5,4 +5,4 @@ use Rattle.planner.proofs.positions.cost.Goals as goal
 
 pub returns : goal.returns
 unfolding rounded_up
-returns c = ap (λ (n : ℕ). rounded_up n c.args.frequency.0) c.picowatts-picowatts.ensures
+returns c = ap (λ (n : ℕ). rounded_up n c.args.frequency.0) c.from-picowatts.ensures
