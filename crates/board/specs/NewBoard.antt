@@ -1,20 +1,15 @@
--- What making a board answers: the number of each case, and the board that is made.
+-- What making a board answers: its number by the sizes, and the board that is made.
 -- Assumes nothing.
-use Rattle.std.specs.Prelude.{ℕ, ◌≡◌}
+use Rattle.std.specs.Prelude.{ℕ, ◌≡◌, Result, Ok}
 use Rattle.units.specs.declared.Microwatts.{Microwatts}
 use Rattle.model.specs.Limits.{most_islands, most_cores, most_places, most_island_power}
-use Rattle.model.specs.Refusals.{Tried, size_conditions, cause_number}
-use Rattle.board.specs.declared.NewBoard.{NewBoard}
-use Rattle.board.specs.declared.NewBoard.TheVariants.{Made, Refused}
+use Rattle.model.specs.declared.Refusal.{Refusal}
+use Rattle.model.specs.Refusals.{Tried, size_conditions, number_of}
+use Rattle.board.specs.declared.Board.{Board}
 
--- 0 where a board is made, else the number of the cause
-abbrev pub number_of : NewBoard → ℕ
-number_of (Made b) = 0
-number_of (Refused cause) = cause_number cause
-
-pub record BoardAnswer (islands cores : ℕ) (power : Microwatts) (r : NewBoard) : Type 0 where
+pub record BoardAnswer (islands cores : ℕ) (power : Microwatts) (r : Result Board Refusal) : Type 0 where
   pub tried : Tried (size_conditions islands cores) (number_of r)
-  pub made : number_of r ≡ 0 → r ≡ Made (record { islands = islands; cores = cores; power = power })
+  pub made : number_of r ≡ 0 → r ≡ Ok (record { islands = islands; cores = cores; power = power })
 
 -- the limits that the board record names are the model's
 pub record LimitsAgree (islands cores places power : ℕ) : Type 0 where

@@ -16,13 +16,6 @@ pub struct Board {
     pub power: Microwatts,
 }
 
-// A board, or the cause why there is none.
-#[derive(Clone, Copy)]
-pub enum NewBoard {
-    Made(Board),
-    Refused(Refusal),
-}
-
 impl Board {
     pub const ISLANDS: u64 = 8;
 
@@ -34,23 +27,14 @@ impl Board {
 
     // A board of any two sizes: refused by 1 where one of them is 0 or above its limit. The island power is taken as it comes,
     // because the table is tried before it.
-    pub fn new(islands: u64, cores: u64, power: Microwatts) -> NewBoard
+    pub fn new(islands: u64, cores: u64, power: Microwatts) -> Result<Self, Refusal>
         ensures answer { BoardAnswer islands cores power result }
         ensures limits { LimitsAgree Board.ISLANDS Board.CORES Board.PLACES Board.ISLAND_POWER }
     {
-        if islands < 1 {
-            return NewBoard::Refused(Refusal::Sizes);
+        if !(1..=Board::ISLANDS).contains(&islands) || !(1..=Board::CORES).contains(&cores) {
+            return Err(Refusal::Sizes);
         }
-        if Board::ISLANDS < islands {
-            return NewBoard::Refused(Refusal::Sizes);
-        }
-        if cores < 1 {
-            return NewBoard::Refused(Refusal::Sizes);
-        }
-        if Board::CORES < cores {
-            return NewBoard::Refused(Refusal::Sizes);
-        }
-        NewBoard::Made(Board {
+        Ok(Board {
             islands,
             cores,
             power,
@@ -61,7 +45,6 @@ impl Board {
     pub fn power_allowed(self) -> bool
         ensures { result ≡ leb self.power.0 most_island_power }
     {
-        let power = self.power;
-        power.0 <= Board::ISLAND_POWER
+        self.power.0 <= Board::ISLAND_POWER
     }
 }

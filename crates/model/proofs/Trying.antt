@@ -8,8 +8,9 @@
 --     tried_within     no number is above those of the list
 --     cause_one        two causes with one number are equal
 --     cause_some       no cause has the number 0
+--     answer_one       two answers with one number are equal where what they hold is
 --     planned_one      two answers with one number and one total are equal
---     number_one       two answers of `number` to one cause are equal, by the equation of its contract
+--     number_one       two numbers that one cause is made into are equal, by the equation of the conversion
 -- Assumes nothing.
 use Prim.Native.Nat.{ℕ, ◌-◌, ◌≤◌, ◌<◌}
 use mathlib.Core.Path.{◌≡◌, refl, sym, ap, ◌∙◌, subst}
@@ -18,12 +19,12 @@ use mathlib.Core.List.{List, [], ◌∷◌, ◌++◌}
 use native.Mathlib.Omega.{arith}
 use lib.Dec.{lit<}
 use lib.ListN.{get_or}
+use Rattle.std.specs.Prelude.{Result, Ok, Err}
+use Rattle.units.specs.declared.Picowatts.{Picowatts}
 use Rattle.model.specs.declared.Refusal.{Refusal}
 use Rattle.model.specs.declared.Refusal.TheVariants.{Sizes, Levels, Ranges, Slopes, IslandPower, Count, Order, Speed, Buffers}
-use Rattle.model.specs.declared.Planned.{Planned}
-use Rattle.model.specs.declared.Planned.TheVariants.{Total, Refused}
-use Rattle.model.specs.Answer.{number_of, total_of}
-use Rattle.model.specs.Refusals.{Condition, Tried, AllHold, FirstCause, cause_number}
+use Rattle.model.specs.Answer.{total_of}
+use Rattle.model.specs.Refusals.{Condition, Tried, AllHold, FirstCause, cause_number, number_of}
 
 pub tried_one : (cs : List Condition) (m n : ℕ) → Tried cs m → Tried cs n → m ≡ n
 tried_one [] m n p q = p ∙ sym q
@@ -129,12 +130,23 @@ cause_some Buffers = lit< tt
 pub cause_one : (c d : Refusal) → cause_number c ≡ cause_number d → c ≡ d
 cause_one c d same = sym (found c) ∙ ap (λ (n : ℕ). get_or causes_in_order (n - 1) Sizes) same ∙ found d
 
+module _ {A : Type 0} where
+  -- the number tells an answer that holds something from every refusal, and a refusal from every other
+  pub answer_one :
+      (r s : Result A Refusal)
+      → number_of r ≡ number_of s
+      → ((a b : A) → r ≡ Ok a → s ≡ Ok b → a ≡ b)
+      → r ≡ s
+  answer_one (Ok a) (Ok b) number held = ap Ok (held a b refl refl)
+  answer_one (Ok a) (Err d) number held = absurd (omega (arith, cause_some d))
+  answer_one (Err c) (Ok b) number held = absurd (omega (arith, cause_some c))
+  answer_one (Err c) (Err d) number held = ap Err (cause_one c d number)
+
 -- "a definition gives this paper's number and values for every one of its cases": these tell an answer from every other
-pub planned_one : (r s : Planned) → number_of r ≡ number_of s → total_of r ≡ total_of s → r ≡ s
-planned_one (Total p) (Total q) number totals = ap (λ (n : ℕ). Total (record { 0 = n })) totals
-planned_one (Total p) (Refused d) number totals = absurd (omega (arith, cause_some d))
-planned_one (Refused c) (Total q) number totals = absurd (omega (arith, cause_some c))
-planned_one (Refused c) (Refused d) number totals = ap Refused (cause_one c d number)
+pub planned_one : (r s : Result Picowatts Refusal) → number_of r ≡ number_of s → total_of r ≡ total_of s → r ≡ s
+planned_one r s number totals =
+    answer_one r s number
+    (λ a b one other. ap (λ (n : ℕ). record { 0 = n }) (sym (ap total_of one) ∙ totals ∙ ap total_of other))
 
 pub number_one : (cause : Refusal) (r s : ℕ) → r ≡ cause_number cause → s ≡ cause_number cause → r ≡ s
 number_one cause r s p q = p ∙ sym q

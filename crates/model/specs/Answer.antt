@@ -1,31 +1,25 @@
 -- What the caller gets back: the one record that the planner's contract cites.
---     number_of    the number that 01 gives to each case of the answer
---     total_of     its total in picowatts
+--     total_of     the total of an answer in picowatts; its number is `number_of` in Refusals
 --     Ruled        a full plan of a job, by the tie rule
 --     Kept         everything as it was, and no total
 --     Accepted     the total, the plan and both buffers where nothing is refused
 --     Answered     the answer to a job, whatever the job is
 -- Assumes nothing.
-use Rattle.std.specs.Prelude.{ℕ, ◌≤◌, ◌<◌, ◌≡◌, List, ◌++◌, length, drop}
-use Rattle.model.specs.declared.Planned.{Planned}
-use Rattle.model.specs.declared.Planned.TheVariants.{Total, Refused}
+use Rattle.std.specs.Prelude.{ℕ, ◌≤◌, ◌<◌, ◌≡◌, List, ◌++◌, length, drop, Result, Ok, Err}
+use Rattle.units.specs.declared.Picowatts.{Picowatts}
+use Rattle.model.specs.declared.Refusal.{Refusal}
 use Rattle.model.specs.Level.{charge}
 use Rattle.model.specs.Job.{Job}
 use Rattle.model.specs.Power.{own, total, levels}
 use Rattle.model.specs.Placement.{Placement}
 use Rattle.model.specs.Plan.{padded, shown}
 use Rattle.model.specs.TieRule.{ByRule}
-use Rattle.model.specs.Refusals.{Tried, conditions, cause_number}
+use Rattle.model.specs.Refusals.{Tried, conditions}
 
--- "The answer is 0 with the total", or the number of the cause
-abbrev pub number_of : Planned → ℕ
-number_of (Total p) = 0
-number_of (Refused cause) = cause_number cause
-
--- "Each returns a total of 0"
-abbrev pub total_of : Planned → ℕ
-total_of (Total p) = p.0
-total_of (Refused cause) = 0
+-- "The answer is 0 with the total"; of the refusals "each returns a total of 0"
+abbrev pub total_of : Result Picowatts Refusal → ℕ
+total_of (Ok p) = p.0
+total_of (Err cause) = 0
 
 -- the plan over all V·Q positions that the tie rule names
 abbrev pub Ruled : Job → List ℕ → Type 0

@@ -8,8 +8,9 @@
 --     size_conditions, table_conditions, power_conditions, load_conditions, room_conditions    the rows 1; 2 to 4; 5; 6 to 8; 9
 --     conditions     the nine of a job and of the lengths of the two lent buffers
 --     cause_number   the number of each case of the enum
+--     number_of      the number of an answer that may be refused, whatever else it holds
 -- Assumes nothing.
-use Rattle.std.specs.Prelude.{ℕ, ◌+◌, ◌-◌, ◌*◌, ◌≤◌, ◌<◌, ◌≡◌, ◌⊎◌, List, [], ◌∷◌, ◌++◌, length, get_or}
+use Rattle.std.specs.Prelude.{ℕ, ◌+◌, ◌-◌, ◌*◌, ◌≤◌, ◌<◌, ◌≡◌, ◌⊎◌, List, [], ◌∷◌, ◌++◌, length, get_or, Result, Ok, Err}
 use Rattle.model.specs.declared.Refusal.{Refusal}
 use Rattle.model.specs.declared.Refusal.TheVariants.{Sizes, Levels, Ranges, Slopes, IslandPower, Count, Order, Speed, Buffers}
 use Rattle.model.specs.Limits.{most_islands, most_cores, most_island_power}
@@ -104,3 +105,8 @@ cause_number Count = 6
 cause_number Order = 7
 cause_number Speed = 8
 cause_number Buffers = 9
+
+-- "The answer is 0" where nothing is refused, or the number of the cause
+abbrev pub number_of : {A : Type 0} → Result A Refusal → ℕ
+number_of (Ok a) = 0
+number_of (Err cause) = cause_number cause
