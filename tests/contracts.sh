@@ -1,7 +1,8 @@
 #!/bin/sh
 # Each `pub fn` of the crates, exported to C or not: its head, from the name to the brace of its body, has an `ensures` and no `requires`,
-# with a name, a star or neither. `pub(crate)` functions are the crate's own affair. The check is first tried on heads that it has to find
-# fault with.
+# with a name, a star or neither. `pub(crate)` functions are the crate's own affair. Each `impl` of a trait says by the trait's ghost
+# members what its function gives, and by none of them what it can be given. The check is first tried on heads that it has to find fault
+# with.
 set -u
 cd "$(dirname "$0")/.." || exit 1
 . tests/tools.sh
@@ -16,8 +17,17 @@ heads() {
             else { bad++; print where ": public " name (stated ? "" : " states no result") (asked ? " asks something of its caller" : "") (ended ? "" : " has a head that is not understood") }
             inside = 0
         }
-        FNR == 1 && inside { judged(0) }
+        FNR == 1 && inside { of_trait = 0; judged(0) }
         { sub(/\/\/.*/, "") }
+        /^impl[ \t<].* for .*\{[ \t]*$/ {
+            inside = 1; of_trait = 1; stated = 0; asked = 0; where = FILENAME; name = $0
+            sub(/[ \t]*\{[ \t]*$/, "", name)
+            next
+        }
+        of_trait && /^[ \t]*ghost[ \t]+[a-z_]+_gives[ \t]*=/ { stated = 1; next }
+        of_trait && /^[ \t]*ghost[ \t]+can_/ { asked = 1; next }
+        of_trait && /^\}/ { of_trait = 0; judged(1); next }
+        of_trait { next }
         /^[ \t]*pub[ \t]+((const|unsafe|extern[ \t]+"C")[ \t]+)*fn[ \t]/ {
             if (inside) judged(0)
             inside = 1; stated = 0; asked = 0; where = FILENAME; name = $0
@@ -87,9 +97,32 @@ pub fn asks_of_memory(x: &u64) -> u64
 {
     *x
 }
+impl From<u32> for Good {
+    ghost from_gives = { λ n r. r.0 ≡ n };
+
+    fn from(n: u32) -> Self {
+        Good(n)
+    }
+}
+impl From<u32> for Bare {
+    fn from(n: u32) -> Self {
+        Bare(n)
+    }
+}
+impl Add for Asks {
+    type Output = Asks;
+
+    ghost can_add = { λ a b. a.0 + b.0 < 8 };
+
+    ghost add_gives = { λ a b r. r.0 ≡ a.0 + b.0 };
+
+    fn add(self, other: Asks) -> Asks {
+        Asks(self.0 + other.0)
+    }
+}
 HEADS
-if [ "$(heads "$faults" | tail -n 1)" != "3 passed, 8 failed" ]; then
-    echo "the check itself is at fault: of eleven heads it has to pass three"
+if [ "$(heads "$faults" | tail -n 1)" != "4 passed, 10 failed" ]; then
+    echo "the check itself is at fault: of fourteen heads it has to pass four"
     heads "$faults"
     exit 1
 fi
