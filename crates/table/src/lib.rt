@@ -3,8 +3,7 @@
 // are tested on the bare numbers. `judge` and `level` ask nothing; of what they call, only the slope test asks for lists of one length.
 #![tactic(auto)]
 
-ghost use Rattle.std.specs.Prelude.{◌≡◌, ◌*◌, ◌<◌, ◌^◌, ltb, length};
-ghost use Rattle.model.specs.Tells.{Tells};
+ghost use Rattle.std.specs.Prelude.{◌≡◌, ◌↔◌, ◌*◌, ◌<◌, ◌^◌, IsTrue, ltb, length};
 ghost use Rattle.model.specs.Table.{WellShaped, Between, Rising, WellRanged, NotFalling};
 ghost use Rattle.model.specs.Level.{lowest};
 ghost use Rattle.table.specs.Judged.{TableAnswer, table_of};
@@ -31,14 +30,14 @@ pub struct Table<'a> {
 
 // Whether every value is at least low and at most high.
 fn between(values: &[u32], low: u32, high: u32) -> bool
-    ensures { Tells result (Between low high values.now) }
+    ensures { IsTrue result ↔ Between low high values.now }
 {
     values.iter().all(|value| (low..=high).contains(value))
 }
 
 // Whether every value is above the one before it.
 fn rising(values: &[u32]) -> bool
-    ensures { Tells result (Rising values.now) }
+    ensures { IsTrue result ↔ Rising values.now }
 {
     values
         .array_windows::<2>()
@@ -61,7 +60,7 @@ fn falls(
 impl Table<'_> {
     // Whether there are some levels, not too many, and as many powers as frequencies.
     fn well_shaped(&self) -> bool
-        ensures { Tells result (WellShaped (table_of self.now.frequencies.now self.now.powers.now)) }
+        ensures { IsTrue result ↔ WellShaped (table_of self.now.frequencies.now self.now.powers.now) }
     {
         (1..=MOST_LEVELS).contains(&self.frequencies.len())
             && self.powers.len() == self.frequencies.len()
@@ -69,7 +68,7 @@ impl Table<'_> {
 
     // Whether all frequencies and powers are in range and the frequencies rise.
     fn well_ranged(&self) -> bool
-        ensures { Tells result (WellRanged (table_of self.now.frequencies.now self.now.powers.now)) }
+        ensures { IsTrue result ↔ WellRanged (table_of self.now.frequencies.now self.now.powers.now) }
     {
         between(self.frequencies, LEAST_FREQUENCY, MOST_FREQUENCY)
             && between(self.powers, LEAST_POWER, MOST_POWER)
@@ -79,7 +78,7 @@ impl Table<'_> {
     // Whether power over frequency falls nowhere in the table.
     fn not_falling(&self) -> bool
         requires { length self.now.powers.now ≡ length self.now.frequencies.now }
-        ensures { Tells result (NotFalling (table_of self.now.frequencies.now self.now.powers.now)) }
+        ensures { IsTrue result ↔ NotFalling (table_of self.now.frequencies.now self.now.powers.now) }
     {
         self.frequencies
             .array_windows::<2>()
