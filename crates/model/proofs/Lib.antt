@@ -5,5 +5,4 @@ pub mod Charge
 pub mod Active
 pub mod Trying
 pub mod Deciding
-pub mod Telling
 pub mod Shown

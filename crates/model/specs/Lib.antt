@@ -1,5 +1,4 @@
 pub mod Limits
-pub mod Tells
 pub mod Table
 pub mod Level
 pub mod Job
