@@ -3,18 +3,20 @@
 --     priced            the costs of these levels are what islands are charged, and none is too high
 --     light             a load that some level is fast enough for is within the range of frequencies
 --     part_front        the front of a local array that was lent and came back
---     zeros_blank       a part of an array of zeros
---     laid              loads laid out behind zeros are the padded loads
+--     laid              loads that are copied behind zeros are the padded loads
 --     padded_carried    some level is fast enough for each of these, where nothing is refused
 -- Assumes nothing.
 use Prim.Native.Nat.{ℕ, zero, suc, ◌-◌, ◌*◌, ◌≤◌, ◌<◌, zero-le}
 use mathlib.Core.Path.{◌≡◌, refl, sym, ap, ◌∙◌, subst}
 use mathlib.Core.List.{List, [], ◌∷◌, ◌++◌}
-use native.Mathlib.Nat.{le_of_eq, le_trans}
+use native.Mathlib.Nat.{le_of_eq, le_trans, mul-le-mul}
 use native.Mathlib.Omega.{arith}
-use lib.ListN.{length, get_or, take, drop, replicate, length-replicate, get_or-replicate}
-use lib.Seq.{take_at, length-take-le, get_or-take, ext_get_or}
-use Rattle.model.specs.Limits.{most_frequency}
+use lib.ListN.{length, get_or, take, drop, replicate, length-replicate}
+use borrow.Rule.Slice.PartMut.{put_mid}
+use Rattle.std.proofs.lemmas.List.{take-replicate}
+use Rattle.std.proofs.lemmas.Slice.{take-put_mid}
+use lib.Seq.{take_at}
+use Rattle.model.specs.Limits.{most_frequency, most_islands, most_cores, most_places}
 use Rattle.model.specs.Table.{Table, WellShaped, WellRanged}
 use Rattle.model.specs.Level.{level_of, cost, charge}
 use Rattle.model.specs.Job.{Job}
@@ -24,7 +26,7 @@ use Rattle.model.proofs.Levels.{lowest_within, last_fast}
 use Rattle.optimum.specs.Loads.{AtMost}
 use Rattle.optimum.specs.Passed.{Passed}
 use Rattle.optimum.proofs.Padding.{padded_within}
-use Rattle.planner.specs.Positions.{Looked, Costed, Charged, Below, Blank}
+use Rattle.planner.specs.Positions.{Looked, Costed, Charged, Below}
 use Rattle.planner.specs.Bounds.{most_charge, Light, Cheap}
 use Rattle.planner.specs.Settled.{Carried}
 use Rattle.planner.proofs.Charges.{cost_most}
@@ -67,20 +69,6 @@ light t ws ranged carried =
 pub part_front : (n : ℕ) (zs xs : List ℕ) → length xs ≡ n → take (n - 0) (xs ++ drop (n - 0) zs) ≡ xs
 part_front n zs xs whole = take_at xs (drop (n - 0) zs) (n - 0) (omega arith)
 
-pub zeros_blank : (n m : ℕ) → Blank (take n (replicate m 0))
-zeros_blank zero m k = refl
-zeros_blank (suc n) zero k = refl
-zeros_blank (suc n) (suc m) zero = refl
-zeros_blank (suc n) (suc m) (suc k) = zeros_blank n m k
-
-blank_front : (n : ℕ) (xs : List ℕ) → Blank xs → n ≤ length xs → take n xs ≡ replicate n 0
-blank_front n xs blank within =
-    let short : length (take n xs) ≡ n = length-take-le n xs within in
-    ext_get_or 0 (take n xs) (replicate n 0) (short ∙ sym (length-replicate {A = ℕ} n 0))
-    (λ k h.
-    let before : k < n = omega arith in
-    get_or-take n xs k 0 before ∙ blank k ∙ sym (get_or-replicate n k 0 0 before))
-
 most_at : (limit : ℕ) (ws : List ℕ) → AtMost limit ws → (k : ℕ) → get_or ws k 0 ≤ limit
 most_at limit [] within k = zero-le
 most_at limit (w ∷ ws) within zero = within.0
@@ -88,15 +76,19 @@ most_at limit (w ∷ ws) within (suc k) = most_at limit ws within.1 k
 
 module _ (job : Job) (passed : Passed job) where
   pub laid :
-      (zeros : List ℕ)
-      → Blank zeros
-      → length zeros ≡ job.islands * job.cores
-      → take (length zeros - length job.loads) zeros ++ job.loads ≡ padded job
+      (places : ℕ) (loads : List ℕ)
+      → places ≡ job.islands * job.cores
+      → loads ≡ job.loads
+      → let front : ℕ = places - length job.loads in take (places - 0) (put_mid front (places - front) (replicate most_places 0) loads) ≡ padded job
   unfolding padded padding
-  laid zeros blank wide =
-      ap (λ (l : List ℕ). l ++ job.loads)
-      (blank_front (length zeros - length job.loads) zeros blank (omega arith)
-      ∙ ap (λ (n : ℕ). replicate (n - length job.loads) 0) wide)
+  laid places loads wide same =
+      let front : ℕ = places - length job.loads in
+      let within : job.islands * job.cores ≤ most_places =
+      mul-le-mul {n₂ = most_islands} {m₂ = most_cores} passed.well.sizes.few_islands passed.well.sizes.few_cores in
+      let copied : length loads ≡ length job.loads = ap (λ (l : List ℕ). length l) same in
+      let zeros : length {A = ℕ} (replicate most_places 0) ≡ most_places = length-replicate {A = ℕ} most_places 0 in
+      take-put_mid front (places - front) (replicate most_places 0) loads (places - 0) (omega (arith, passed.few)) (omega arith)
+      ∙ rw (take-replicate {X = ℕ} front most_places 0 (omega arith), same, wide) refl
 
   pub padded_carried : Carried job.table (padded job)
   padded_carried k h =

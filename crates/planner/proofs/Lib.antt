@@ -1,6 +1,5 @@
 pub mod Answers
 pub mod Charges
-pub mod Loops
 pub mod LevelBytes
 pub mod Square
 pub mod Rows

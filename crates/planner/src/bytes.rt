@@ -1,7 +1,7 @@
-// The bytes that the caller gets back: the level number of each island, and the copy into a lent buffer.
-// Functions here ask for loads in order, lists whose lengths go together, islands and levels in range, level numbers that are all 0, and
-// buffers that are long enough; every caller within the crate shows it.
-ghost use Rattle.std.specs.Prelude.{◌≡◌, ◌++◌, ◌-◌, ◌<◌, ◌≤◌, length, drop};
+// The level bytes: the level number of each island.
+// `number_levels` asks for loads in order, lists whose lengths go together, islands and levels in range, and level numbers that are all 0;
+// its caller shows it.
+ghost use Rattle.std.specs.Prelude.{◌≡◌, ◌-◌, ◌<◌, length};
 ghost use Rattle.model.specs.Limits.{most_levels};
 ghost use Rattle.model.specs.Plan.{Named};
 ghost use Rattle.model.specs.Refusals.{Ordered};
@@ -18,30 +18,16 @@ fn index(island: u8) -> usize
 // The level number of each island. Loads come lightest first, so the last load above 0 on an island is its heaviest.
 pub(crate) fn number_levels(loads: &[u64], plan: &[u8], steps: &[u8], numbers: &mut [u8])
     requires ordered { Ordered loads.now }
-    requires plan_len { length plan.now ≡ length loads.now }
-    requires steps_len { length steps.now ≡ length loads.now }
-    requires named { Named 0 (length numbers.old) plan.now }
-    requires below { Below most_levels steps.now }
-    requires blank { Blank numbers.old }
+    requires island_a_load { length plan.now ≡ length loads.now }
+    requires step_a_load { length steps.now ≡ length loads.now }
+    requires islands_in_range { Named 0 (length numbers.old) plan.now }
+    requires steps_in_range { Below most_levels steps.now }
+    requires all_zero { Blank numbers.old }
     ensures { LevelNumbers loads.now plan.now steps.now (length numbers.old) numbers.new }
 {
-    let mut k = 0;
-    while k < loads.len() {
-        if 0 < loads[k] {
+    for (k, load) in loads.iter().enumerate() {
+        if 0 < *load {
             numbers[index(plan[k])] = steps[k] + 1;
         }
-        k += 1;
-    }
-}
-
-// The bytes of a slice, at the beginning of another.
-pub(crate) fn copy(from: &[u8], to: &mut [u8])
-    requires { length from.now ≤ length to.old }
-    ensures { to.new ≡ from.now ++ drop (length from.now) to.old }
-{
-    let mut k = 0;
-    while k < from.len() {
-        to[k] = from[k];
-        k += 1;
     }
 }

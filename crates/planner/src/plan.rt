@@ -16,8 +16,8 @@ ghost use Rattle.planner.specs.Positions.{Looked, Below};
 ghost use Rattle.planner.specs.Bounds.{most_own, Light, Cheap};
 ghost use Rattle.planner.specs.Settled.{Carried, Solved, SettledJob, Leveled, HandedBack};
 
-use super::bytes::{copy, number_levels};
-use super::positions::{charge_all, lay_out, look_up};
+use super::bytes::number_levels;
+use super::positions::{charge_all, look_up};
 use super::refuse::judge_job;
 use super::search::{MOST_ISLANDS, SQUARE, best_at, search};
 use super::write::{Run, write_run};
@@ -70,15 +70,17 @@ fn settle(
     steps: &mut [u8],
     full: &mut [u8],
 ) -> Picowatts
-    requires fit_sizes { FitSizes islands cores }
-    requires well_shaped { WellShaped (table_of frequencies.now powers.now) }
-    requires well_ranged { WellRanged (table_of frequencies.now powers.now) }
-    requires power_le_most_island_power { power.0 ≤ most_island_power }
-    requires positions_len { (length positions.now ≡ islands * cores) × (length steps.old ≡ islands * cores) × (length full.old ≡ islands * cores) }
+    requires sizes { FitSizes islands cores }
+    requires shaped { WellShaped (table_of frequencies.now powers.now) }
+    requires ranged { WellRanged (table_of frequencies.now powers.now) }
+    requires power_in_range { power.0 ≤ most_island_power }
+    requires whole_board { length positions.now ≡ islands * cores }
+    requires step_a_place { length steps.old ≡ islands * cores }
+    requires island_a_place { length full.old ≡ islands * cores }
     requires carried { Carried (table_of frequencies.now powers.now) positions.now }
     ensures looked { Looked frequencies.now positions.now steps.new }
-    ensures result_value { result.0 ≡ best cores (power.0 * million) (charge (table_of frequencies.now powers.now)) positions.now 0 islands }
-    ensures full_after { full.new ≡ plan_run cores (power.0 * million) (charge (table_of frequencies.now powers.now)) positions.now 0 0 islands }
+    ensures least { result.0 ≡ best cores (power.0 * million) (charge (table_of frequencies.now powers.now)) positions.now 0 islands }
+    ensures chosen { full.new ≡ plan_run cores (power.0 * million) (charge (table_of frequencies.now powers.now)) positions.now 0 0 islands }
 {
     let places = positions.len();
     look_up(frequencies, positions, steps);
@@ -106,12 +108,14 @@ fn settle_job(
     full: &mut [u8],
 ) -> Picowatts
     requires passed { Passed (job_of islands cores power.0 frequencies.now powers.now loads.now) }
-    requires steps_len { (length steps.old ≡ islands * cores) × (length full.old ≡ islands * cores) }
+    requires step_a_place { length steps.old ≡ islands * cores }
+    requires island_a_place { length full.old ≡ islands * cores }
     ensures { SettledJob (job_of islands cores power.0 frequencies.now powers.now loads.now) steps.new result.0 full.new }
 {
     let places = steps.len();
+    let front = places - loads.len();
     let mut positions = [0u64; Board::PLACES];
-    lay_out(loads, &mut positions[0..places]);
+    positions[front..places].copy_from_slice(loads);
     settle(
         islands,
         cores,
@@ -134,17 +138,20 @@ fn hand_back(
     levels: &mut [u8],
 )
     requires ordered { Ordered loads.now }
-    requires shown_len { (length shown.now ≡ length loads.now) × (length steps.now ≡ length loads.now) }
-    requires named { Named 0 islands shown.now }
-    requires below { Below most_levels steps.now }
-    requires islands_le_most_islands { (islands ≤ most_islands) × (length loads.now ≤ length plan.old) × (islands ≤ length levels.old) }
-    ensures plan_after { plan.new ≡ shown.now ++ drop (length loads.now) plan.old }
-    ensures leveled { Leveled loads.now shown.now steps.now islands levels.old levels.new }
+    requires island_a_load { length shown.now ≡ length loads.now }
+    requires step_a_load { length steps.now ≡ length loads.now }
+    requires islands_in_range { Named 0 islands shown.now }
+    requires steps_in_range { Below most_levels steps.now }
+    requires few_islands { islands ≤ most_islands }
+    requires plan_room { length loads.now ≤ length plan.old }
+    requires level_room { islands ≤ length levels.old }
+    ensures plan_written { plan.new ≡ shown.now ++ drop (length loads.now) plan.old }
+    ensures levels_written { Leveled loads.now shown.now steps.now islands levels.old levels.new }
 {
     let mut numbers = [0u8; MOST_ISLANDS];
     number_levels(loads, shown, steps, &mut numbers[0..islands]);
-    copy(shown, plan);
-    copy(&numbers[0..islands], levels);
+    plan[..shown.len()].copy_from_slice(shown);
+    levels[..islands].copy_from_slice(&numbers[..islands]);
 }
 
 // Plans a job that nothing refuses, and writes both buffers.
@@ -159,7 +166,7 @@ fn planned(
     levels: &mut [u8],
 ) -> Picowatts
     requires passed { Passed (job_of islands cores power.0 frequencies.now powers.now loads.now) }
-    requires room_enough { RoomEnough (job_of islands cores power.0 frequencies.now powers.now loads.now) (length plan.old) (length levels.old) }
+    requires room { RoomEnough (job_of islands cores power.0 frequencies.now powers.now loads.now) (length plan.old) (length levels.old) }
     ensures { HandedBack (job_of islands cores power.0 frequencies.now powers.now loads.now) plan.old levels.old result.0 plan.new levels.new }
 {
     let places = islands * cores;

@@ -11,31 +11,15 @@ use model::Refusal;
 use table::{Judged, judge};
 use units::{Kilohertz, Microwatts};
 
-// Whether no load is below the one before it.
-fn ordered(loads: &[u64]) -> bool
-    ensures { Tells result (Ordered loads.now) }
-{
-    let mut k = 0;
-    while k + 1 < loads.len() {
-        if loads[k + 1] < loads[k] {
-            return false;
-        }
-        k += 1;
-    }
-    true
-}
-
 // Whether the last load is within the last frequency; a list without loads is.
 fn slow_enough(frequencies: &[u32], loads: &[u64]) -> bool
     requires { 0 < length frequencies.now }
     ensures { Tells result (last_of loads.now ≤ last_of frequencies.now) }
 {
-    let n = loads.len();
-    if n < 1 {
-        return true;
+    match (loads.last(), frequencies.last()) {
+        (Some(load), Some(frequency)) => Kilohertz::from(*frequency).carries(Kilohertz(*load)),
+        _ => true,
     }
-    let levels = frequencies.len();
-    Kilohertz::from(frequencies[levels - 1]).carries(Kilohertz(loads[n - 1]))
 }
 
 // Causes 1 to 5: the board and the table.
@@ -64,14 +48,14 @@ fn judge_board(
 
 // Causes 6 to 8: the loads.
 fn judge_loads(islands: u64, cores: u64, frequencies: &[u32], loads: &[u64]) -> Judged
-    requires fit_sizes { FitSizes islands cores }
-    requires frequencies_nonzero { 0 < length frequencies.now }
+    requires sizes { FitSizes islands cores }
+    requires some_level { 0 < length frequencies.now }
     ensures { LoadsTried islands cores frequencies.now loads.now (number_of result) }
 {
     if islands * cores < (loads.len() as u64) {
         return Judged::Refused(Refusal::Count);
     }
-    if !ordered(loads) {
+    if !loads.is_sorted() {
         return Judged::Refused(Refusal::Order);
     }
     if !slow_enough(frequencies, loads) {

@@ -31,28 +31,28 @@ known t ws steps rates as_long looked carried as_many costed shaped ranged =
     (sym (part_front (length ws) (replicate most_places 0) rates as_many))
     (priced t ws steps as_long looked carried rates as_many costed shaped ranged)
 
-pub charge_all-requires-clause-below : goal.charge_all-requires-clause-below
-charge_all-requires-clause-below c =
+pub charge_all-requires-clause-steps_in_table : goal.charge_all-requires-clause-steps_in_table
+charge_all-requires-clause-steps_in_table c =
     below (table_of c.args.frequencies.now c.args.powers.now) c.args.positions.now c.look_up.new.steps (omega arith) c.look_up.ensures
     c.requires.carried
 
 pub solve-requires-clause-cheap : goal.solve-requires-clause-cheap
 solve-requires-clause-cheap c =
     (known (table_of c.args.frequencies.now c.args.powers.now) c.args.positions.now c.look_up.new.steps c.charge_all.new.rates (omega arith)
-    c.look_up.ensures c.requires.carried (omega arith) c.charge_all.ensures c.requires.well_shaped c.requires.well_ranged).0
+    c.look_up.ensures c.requires.carried (omega arith) c.charge_all.ensures c.requires.shaped c.requires.ranged).0
 
 pub returns : goal.returns
 returns c =
     let rate = charge (table_of c.args.frequencies.now c.args.powers.now) in
     let charged =
     (known (table_of c.args.frequencies.now c.args.powers.now) c.args.positions.now c.look_up.new.steps c.charge_all.new.rates
-    (omega arith) c.look_up.ensures c.requires.carried (omega arith) c.charge_all.ensures c.requires.well_shaped
-    c.requires.well_ranged).1 in
+    (omega arith) c.look_up.ensures c.requires.carried (omega arith) c.charge_all.ensures c.requires.shaped
+    c.requires.ranged).1 in
     let solved = c.solve.ensures rate charged in
     record {
       looked = c.look_up.ensures;
-      result_value =
+      least =
           solved.0 ∙ ap (λ (o : ℕ). best c.args.cores o rate c.args.positions.now 0 c.args.islands) c.from.ensures;
-      full_after =
+      chosen =
           solved.1 ∙ ap (λ (o : ℕ). plan_run c.args.cores o rate c.args.positions.now 0 0 c.args.islands) c.from.ensures;
     }

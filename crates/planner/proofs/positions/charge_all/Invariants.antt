@@ -1,15 +1,9 @@
 -- The loop of `charge_all`: the cost of every position before k is stored. Assumes nothing.
-use Rattle.std.proofs.Common.{length, ◌-◌, ◌≡◌, ◌≤◌, get_or}
+use Rattle.std.proofs.Common.{◌≡◌, ◌<◌, ℕ, get_or}
 use Rattle.model.specs.Level.{cost}
 use Rattle.table.specs.Judged.{table_of}
-use Rattle.planner.proofs.Loops.{Stored}
 use Rattle.planner.proofs.positions.charge_all.Given as goal
 
 abbrev pub invariant-loop-k : goal.invariant-loop-k
 invariant-loop-k l =
-    (l.k ≤ length l.steps)
-    × (length l.rates ≡ length l.steps)
-    × Stored (λ j x. x ≡ cost (table_of l.frequencies l.powers) (get_or l.steps j 0)) l.rates l.k
-
-abbrev pub decreases-loop-k : goal.decreases-loop-k
-decreases-loop-k l = length l.steps - l.k
+    (k : ℕ) → k < l.k → get_or l.rates k 0 ≡ cost (table_of l.frequencies l.powers) (get_or l.steps k 0)
