@@ -1,11 +1,10 @@
 -- What is handed back of a job that nothing refuses.
---     leveled       level numbers that are copied to the beginning of a list
 --     shown_plan    the part of the full plan that belongs to the job's own loads is what is shown
 --     shown_steps   the same part of the levels of all positions has those of the loads
---     ready         so both can be handed back
+--     shown_islands, steps_low    all of them are in range
 -- Assumes nothing.
 use Prim.Native.Nat.{ℕ, ◌+◌, ◌-◌, ◌*◌, ◌<◌}
-use mathlib.Core.Path.{◌≡◌, sym, ap, ◌∙◌, subst}
+use mathlib.Core.Path.{◌≡◌, refl, sym, ap, ◌∙◌, subst}
 use mathlib.Core.List.{List, ◌++◌}
 use native.Mathlib.Omega.{arith}
 use lib.ListN.{length, get_or, take, drop, replicate, length-replicate, length-append, length-drop}
@@ -17,47 +16,35 @@ use Rattle.model.specs.Plan.{padding, padded, shown, Named}
 use Rattle.optimum.specs.OfJob.{plan_of}
 use Rattle.optimum.specs.Passed.{Passed}
 use Rattle.optimum.proofs.NamedPlans.{full_length}
-use Rattle.optimum.proofs.Padding.{padded_length}
 use Rattle.optimum.proofs.DemandTwo.{plan_uncrossed, plan_placement}
-use Rattle.planner.specs.Positions.{Looked, Below, LevelNumbers}
-use Rattle.planner.specs.Settled.{Leveled}
-use Rattle.planner.proofs.Laying.{below, padded_carried}
-
--- a copy of the level bytes to the beginning of a list
-pub leveled :
-    (ws plan steps : List ℕ) (islands : ℕ) (numbers lent before after : List ℕ)
-    → LevelNumbers ws plan steps (length numbers) numbers
-    → length numbers ≡ islands
-    → lent ≡ numbers
-    → after ≡ lent ++ drop (length lent) before
-    → Leveled ws plan steps islands before after
-leveled ws plan steps islands numbers lent before after right long same copied job loads wide looked =
-    copied
-    ∙ ap (λ (l : List ℕ). l ++ drop (length l) before) same
-    ∙ ap (λ (n : ℕ). numbers ++ drop n before) long
-    ∙ ap (λ (l : List ℕ). l ++ drop islands before) (right job loads (wide ∙ sym long) looked)
+use Rattle.planner.specs.Positions.{Looked, Below}
+use Rattle.planner.proofs.Laying.{below}
 
 -- the part of a local array that belongs to the job's own loads, when its front was lent and came back
-abbrev part_of : Job → List ℕ → List ℕ → List ℕ
-part_of job zeros xs =
-    let places = job.islands * job.cores in
-    let front = places - length job.loads in
-    take (places - front) (drop front (xs ++ drop (places - 0) zeros))
+abbrev part_of : (places front : ℕ) → List ℕ → List ℕ → List ℕ
+part_of places front zeros xs = take (places - front) (drop front (xs ++ drop places zeros))
 
-module _ (job : Job) (passed : Passed job) (zeros : List ℕ) where
-  part_end : (xs : List ℕ) → length xs ≡ job.islands * job.cores → part_of job zeros xs ≡ drop (padding job) xs
+module _
+    (job : Job) (passed : Passed job) (places front : ℕ) (wide : places ≡ job.islands * job.cores)
+    (before : front + length job.loads ≡ job.islands * job.cores) (zeros : List ℕ) where
+  part_end : (xs : List ℕ) → length xs ≡ job.islands * job.cores → part_of places front zeros xs ≡ drop (padding job) xs
   unfolding padding
   part_end xs whole =
-      let places = job.islands * job.cores in
-      let front = places - length job.loads in
-      ap (λ (l : List ℕ). take (places - front) l) (drop-append-le front xs (drop (places - 0) zeros) (omega arith))
-      ∙ take_at (drop front xs) (drop (places - 0) zeros) (places - front) (omega (arith, length-drop front xs))
+      ap (λ (l : List ℕ). take (places - front) l) (drop-append-le front xs (drop places zeros) (omega arith))
+      ∙ take_at (drop front xs) (drop places zeros) (places - front) (omega (arith, length-drop front xs))
+      ∙ ap (λ (n : ℕ). drop n xs) (omega arith)
 
-  pub shown_plan : (full : List ℕ) → full ≡ plan_of job → part_of job zeros full ≡ shown job (plan_of job)
+  pub shown_plan : (full : List ℕ) → full ≡ plan_of job → part_of places front zeros full ≡ shown job (plan_of job)
   unfolding shown
   shown_plan full is =
       let whole = full_length job.cores 0 job.islands (plan_of job) (plan_uncrossed job passed).full in
       part_end full (ap (λ (l : List ℕ). length l) is ∙ whole) ∙ ap (λ (l : List ℕ). drop (padding job) l) is
+
+  pub shown_islands : (full : List ℕ) → full ≡ plan_of job → Named 0 job.islands (part_of places front zeros full)
+  shown_islands full is =
+      let placed = plan_placement job passed in
+      subst (λ (l : List ℕ). Named 0 job.islands l) (sym (shown_plan full is))
+      (λ j h. ((placed.islands j h).0, omega (arith, placed.islands j h)))
 
   module _
       (steps : List ℕ) (whole : length steps ≡ job.islands * job.cores)
@@ -77,29 +64,12 @@ module _ (job : Job) (passed : Passed job) (zeros : List ℕ) where
     low : Below most_levels (drop (padding job) steps)
     low k h =
         let within : padding job + k < length steps = omega (arith, length-drop (padding job) steps) in
-        let as_long = whole ∙ sym (padded_length job passed.few) in
-        let level = below job.table (padded job) steps as_long looked (padded_carried job passed) (padding job + k) within in
+        let level = below job passed (padded job) refl steps whole looked (padding job + k) within in
         rw get_or-drop (omega (arith, passed.well.shaped.few_levels))
 
-    pub shown_steps : Looked job.table.frequencies job.loads (part_of job zeros steps)
+    pub shown_steps : Looked job.table.frequencies job.loads (part_of places front zeros steps)
     shown_steps =
         subst (λ (l : List ℕ). Looked job.table.frequencies job.loads l) (sym (part_end steps whole)) behind
 
-    pub ready :
-        (full : List ℕ)
-        → full ≡ plan_of job
-        → ((length (part_of job zeros full) ≡ length job.loads) × (length (part_of job zeros steps) ≡ length job.loads))
-        × (Named 0 job.islands (part_of job zeros full) × Below most_levels (part_of job zeros steps))
-    unfolding padding
-    ready full is =
-        let plan = shown_plan full is in
-        let levels = part_end steps whole in
-        let placed = plan_placement job passed in
-        let long : length (drop (padding job) steps) ≡ length job.loads =
-        omega (arith, length-drop (padding job) steps, passed.few) in (
-          (ap (λ (l : List ℕ). length l) plan ∙ placed.one_a_load, ap (λ (l : List ℕ). length l) levels ∙ long),
-          (
-            subst (λ (l : List ℕ). Named 0 job.islands l) (sym plan) (λ j h. ((placed.islands j h).0, omega (arith, placed.islands j h))),
-            subst (λ (l : List ℕ). Below most_levels l) (sym levels) low,
-          ),
-        )
+    pub steps_low : Below most_levels (part_of places front zeros steps)
+    steps_low = subst (λ (l : List ℕ). Below most_levels l) (sym (part_end steps whole)) low

@@ -1,34 +1,33 @@
--- From a table and the loads at the positions to what the search asks, and from a job to these loads.
+-- From a job that nothing refuses to what the search asks.
+--     padded_carried    some level is fast enough for each load at the positions
+--     whole             there is a load at each of them
+--     light             and each is within the range of frequencies
 --     below             every level that is looked up is one of the table
 --     priced            the costs of these levels are what islands are charged, and none is too high
---     light             a load that some level is fast enough for is within the range of frequencies
---     part_front        the front of a local array that was lent and came back
 --     laid              loads that are copied behind zeros are the padded loads
---     padded_carried    some level is fast enough for each of these, where nothing is refused
 -- Assumes nothing.
-use Prim.Native.Nat.{ℕ, zero, suc, ◌-◌, ◌*◌, ◌≤◌, ◌<◌, zero-le}
-use mathlib.Core.Path.{◌≡◌, refl, sym, ap, ◌∙◌, subst}
+use Prim.Native.Nat.{ℕ, zero, suc, ◌+◌, ◌-◌, ◌*◌, ◌≤◌, ◌<◌, zero-le}
+use mathlib.Core.Path.{◌≡◌, sym, ap, ◌∙◌, subst}
 use mathlib.Core.List.{List, [], ◌∷◌, ◌++◌}
 use native.Mathlib.Nat.{le_of_eq, le_trans, mul-le-mul}
 use native.Mathlib.Omega.{arith}
 use lib.ListN.{length, get_or, take, drop, replicate, length-replicate}
+use lib.Seq.{take_at, length-take-le}
 use borrow.Rule.Slice.PartMut.{put_mid}
 use Rattle.std.proofs.lemmas.List.{take-replicate}
 use Rattle.std.proofs.lemmas.Slice.{take-put_mid}
-use lib.Seq.{take_at}
-use Rattle.model.specs.Limits.{most_frequency, most_islands, most_cores, most_places}
-use Rattle.model.specs.Table.{Table, WellShaped, WellRanged}
+use Rattle.model.specs.Limits.{most_islands, most_cores, most_places}
 use Rattle.model.specs.Level.{level_of, cost, charge}
 use Rattle.model.specs.Job.{Job}
+use Rattle.model.specs.Placement.{FastEnough}
 use Rattle.model.specs.Plan.{padding, padded}
 use Rattle.model.specs.Refusals.{last_of}
 use Rattle.model.proofs.Levels.{lowest_within, last_fast}
 use Rattle.optimum.specs.Loads.{AtMost}
 use Rattle.optimum.specs.Passed.{Passed}
-use Rattle.optimum.proofs.Padding.{padded_within}
+use Rattle.optimum.proofs.Padding.{padded_length, padded_within}
 use Rattle.planner.specs.Positions.{Looked, Costed, Charged, Below}
 use Rattle.planner.specs.Bounds.{most_charge, Light, Cheap}
-use Rattle.planner.specs.Settled.{Carried}
 use Rattle.planner.proofs.Charges.{cost_most}
 
 -- an entry past the end of a list is 0, and one before it is as is known
@@ -37,61 +36,75 @@ each_most bound [] known k = zero-le
 each_most bound (x ∷ xs) known zero = known 0 (omega arith)
 each_most bound (x ∷ xs) known (suc k) = each_most bound xs (λ j h. known (suc j) (omega arith)) k
 
-module _
-    (t : Table) (ws steps : List ℕ) (as_long : length steps ≡ length ws) (looked : Looked t.frequencies ws steps)
-    (carried : Carried t ws) where
-  pub below : Below (length t.frequencies) steps
-  below k h =
-      subst (λ (n : ℕ). n < length t.frequencies) (sym (looked k (omega arith)))
-      (lowest_within t (get_or ws k 0) (carried k (omega arith)))
-
-  pub priced :
-      (rates : List ℕ)
-      → length rates ≡ length ws
-      → Costed t steps rates
-      → WellShaped t
-      → WellRanged t
-      → Cheap ws rates × Charged (charge t) ws rates
-  unfolding charge level_of
-  priced rates as_many costed shaped ranged =
-      let most = each_most most_charge rates
-      (λ k h. le_trans (le_of_eq (costed k (omega arith))) (cost_most t shaped ranged (get_or steps k 0) (below k (omega arith)))) in
-      (record { same_length = as_many; cheap = most }, λ k h. costed k (omega arith) ∙ ap (λ (n : ℕ). cost t n) (looked k h))
-
-pub light : (t : Table) (ws : List ℕ) → WellRanged t → Carried t ws → Light ws
-light t ws ranged carried =
-    each_most most_frequency ws
-    (λ k h.
-    let fast = carried k h in
-    le_trans fast.enough (ranged.frequency_range fast.level fast.within).1)
-
--- what was lent of the front of a list zs, as it came back: xs, before the rest of zs
-pub part_front : (n : ℕ) (zs xs : List ℕ) → length xs ≡ n → take (n - 0) (xs ++ drop (n - 0) zs) ≡ xs
-part_front n zs xs whole = take_at xs (drop (n - 0) zs) (n - 0) (omega arith)
-
 most_at : (limit : ℕ) (ws : List ℕ) → AtMost limit ws → (k : ℕ) → get_or ws k 0 ≤ limit
 most_at limit [] within k = zero-le
 most_at limit (w ∷ ws) within zero = within.0
 most_at limit (w ∷ ws) within (suc k) = most_at limit ws within.1 k
 
 module _ (job : Job) (passed : Passed job) where
-  pub laid :
-      (places : ℕ) (loads : List ℕ)
-      → places ≡ job.islands * job.cores
-      → loads ≡ job.loads
-      → let front : ℕ = places - length job.loads in take (places - 0) (put_mid front (places - front) (replicate most_places 0) loads) ≡ padded job
-  unfolding padded padding
-  laid places loads wide same =
-      let front : ℕ = places - length job.loads in
-      let within : job.islands * job.cores ≤ most_places =
-      mul-le-mul {n₂ = most_islands} {m₂ = most_cores} passed.well.sizes.few_islands passed.well.sizes.few_cores in
-      let copied : length loads ≡ length job.loads = ap (λ (l : List ℕ). length l) same in
-      let zeros : length {A = ℕ} (replicate most_places 0) ≡ most_places = length-replicate {A = ℕ} most_places 0 in
-      take-put_mid front (places - front) (replicate most_places 0) loads (places - 0) (omega (arith, passed.few)) (omega arith)
-      ∙ rw (take-replicate {X = ℕ} front most_places 0 (omega arith), same, wide) refl
+  few_places : job.islands * job.cores ≤ most_places
+  few_places = mul-le-mul {n₂ = most_islands} {m₂ = most_cores} passed.well.sizes.few_islands passed.well.sizes.few_cores
 
-  pub padded_carried : Carried job.table (padded job)
-  padded_carried k h =
+  -- the front of an array of zeros, when it is lent
+  pub lent_front : (places : ℕ) → places ≡ job.islands * job.cores → length {A = ℕ} (take places (replicate most_places 0)) ≡ places
+  lent_front places wide =
+      length-take-le {A = ℕ} places (replicate most_places 0) (omega (arith, few_places, length-replicate {A = ℕ} most_places 0))
+
+  pub padded_carried : (k : ℕ) → FastEnough job.table (get_or (padded job) k 0)
+  padded_carried k =
       last_fast job.table (get_or (padded job) k 0) passed.well.shaped.some_level
       (most_at (last_of job.table.frequencies) (padded job)
       (padded_within job (last_of job.table.frequencies) passed.well.ordered passed.slow) k)
+
+  module _ (ws : List ℕ) (laid_out : ws ≡ padded job) where
+    pub whole : length ws ≡ job.islands * job.cores
+    whole = ap (λ (l : List ℕ). length l) laid_out ∙ padded_length job passed.few
+
+    carried : (k : ℕ) → FastEnough job.table (get_or ws k 0)
+    carried k = subst (λ (l : List ℕ). FastEnough job.table (get_or l k 0)) (sym laid_out) (padded_carried k)
+
+    pub light : Light ws
+    light k = let fast = carried k in le_trans fast.enough (passed.well.ranged.frequency_range fast.level fast.within).1
+
+    module _
+        (steps : List ℕ) (as_long : length steps ≡ job.islands * job.cores) (looked : Looked job.table.frequencies ws steps) where
+      pub below : Below (length job.table.frequencies) steps
+      below k h =
+          subst (λ (n : ℕ). n < length job.table.frequencies) (sym (looked k (omega (arith, whole))))
+          (lowest_within job.table (get_or ws k 0) (carried k))
+
+      -- the costs are stored in the front of an array of zeros that was lent
+      pub priced :
+          (places : ℕ) (rates : List ℕ)
+          → places ≡ job.islands * job.cores
+          → length rates ≡ length {A = ℕ} (take places (replicate most_places 0))
+          → Costed job.table steps rates
+          → let lent : List ℕ = take places (rates ++ drop places (replicate most_places 0)) in
+          Cheap ws lent × Charged (charge job.table) ws lent
+      unfolding charge level_of
+      priced places rates wide as_many costed =
+          let zeros : List ℕ = replicate most_places 0 in
+          let front : length (take places zeros) ≡ places = lent_front places wide in
+          let most = each_most most_charge rates
+          (λ k h.
+          le_trans (le_of_eq (costed k (omega arith)))
+          (cost_most job.table passed.well.shaped passed.well.ranged (get_or steps k 0) (below k (omega arith)))) in
+          let lent : take places (rates ++ drop places zeros) ≡ rates = take_at rates (drop places zeros) places (omega arith) in
+          subst (λ (l : List ℕ). Cheap ws l × Charged (charge job.table) ws l) (sym lent) (
+            record { same_length = omega (arith, whole); cheap = most },
+            λ k h. costed k (omega (arith, whole)) ∙ ap (λ (n : ℕ). cost job.table n) (looked k h),
+          )
+
+  pub laid :
+      (places front : ℕ) (loads : List ℕ)
+      → places ≡ job.islands * job.cores
+      → front + length job.loads ≡ job.islands * job.cores
+      → loads ≡ job.loads
+      → take places (put_mid front (places - front) (replicate most_places 0) loads) ≡ padded job
+  unfolding padded padding
+  laid places front loads wide before same =
+      let before : front ≡ padding job = omega arith in
+      let copied : length loads ≡ length job.loads = ap (λ (l : List ℕ). length l) same in
+      let zeros : length {A = ℕ} (replicate most_places 0) ≡ most_places = length-replicate {A = ℕ} most_places 0 in
+      take-put_mid front (places - front) (replicate most_places 0) loads places (omega (arith, passed.few)) (omega (arith, few_places))
+      ∙ rw (take-replicate {X = ℕ} front most_places 0 (omega (arith, few_places)), same, before)

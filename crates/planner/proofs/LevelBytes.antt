@@ -1,5 +1,5 @@
 -- The level bytes, load by load.
---     SoFar          the bytes that the first k loads give, whatever the job's table
+--     SoFar          the bytes that the first k loads give
 --     so_far_none    before the first load all are 0
 --     so_far_more    a load above 0 gives its island its own level: no load before it is heavier
 --     so_far_idle    a load of 0 changes nothing
@@ -27,7 +27,7 @@ use Rattle.optimum.proofs.Spread.{each_length, each_at}
 use Rattle.optimum.proofs.Held.{held_append, held_other, heaviest_append}
 use Rattle.optimum.proofs.OrderedLoads.{ordered_sorted}
 use Rattle.optimum.proofs.SortedLoads.{sorted_front, top_heaviest}
-use Rattle.planner.specs.Positions.{Looked, Blank, LevelNumbers}
+use Rattle.planner.specs.Positions.{Looked, Blank}
 
 -- the heaviest of the first k loads on the island z
 top : List ℕ → List ℕ → ℕ → ℕ → ℕ
@@ -84,83 +84,77 @@ module _ (plan ws : List ℕ) (as_long : length plan ≡ length ws) (k : ℕ) (s
 number : Job → ℕ → ℕ
 number job w = cond (ltb 0 w) (suc (level_of job.table w)) 0
 
-module _ (ws plan steps : List ℕ) (islands : ℕ) where
+module _ (job : Job) (plan steps : List ℕ) where
   pub record SoFar (k : ℕ) (numbers : List ℕ) : Type 0 where
-    pub sized : length numbers ≡ islands
-    pub bytes :
-        (job : Job)
-        → Looked job.table.frequencies ws steps
-        → (z : ℕ)
-        → get_or numbers z 0 ≡ level_number job (held (suc z) (take k plan) (take k ws))
+    pub sized : length numbers ≡ job.islands
+    pub bytes : (z : ℕ) → get_or numbers z 0 ≡ level_number job (held (suc z) (take k plan) (take k job.loads))
 
-  pub so_far_none : (numbers : List ℕ) → Blank numbers → length numbers ≡ islands → SoFar 0 numbers
+  pub so_far_none : (numbers : List ℕ) → Blank numbers → length numbers ≡ job.islands → SoFar 0 numbers
   unfolding held heaviest active level_number
-  so_far_none numbers blank sized = record { sized = sized; bytes = λ job looked z. blank z }
+  so_far_none numbers blank sized = record { sized = sized; bytes = blank }
 
   pub so_far_all :
       (k : ℕ) (numbers : List ℕ)
-      → length plan ≡ length ws
+      → length plan ≡ length job.loads
       → SoFar k numbers
-      → k ≡ length ws
-      → LevelNumbers ws plan steps islands numbers
+      → k ≡ length job.loads
+      → numbers ≡ levels job plan
   unfolding levels
-  so_far_all k numbers as_long so_far all job same wide looked =
+  so_far_all k numbers as_long so_far all =
       let byte : ℕ → ℕ = λ z. level_number job (held z plan job.loads) in
       let whole : take k plan ≡ plan = ap (λ (n : ℕ). take n plan) (all ∙ sym as_long) ∙ take-length plan in
-      let loads : take k ws ≡ job.loads = ap (λ (n : ℕ). take n ws) all ∙ take-length ws ∙ sym same in
+      let loads : take k job.loads ≡ job.loads = ap (λ (n : ℕ). take n job.loads) all ∙ take-length job.loads in
       ext_get_or 0 numbers (each byte 0 job.islands) (omega (arith, so_far.sized, each_length byte 0 job.islands))
       (λ z h.
-      so_far.bytes job looked z
-      ∙ ap (λ (l : List ℕ). level_number job (held (suc z) l (take k ws))) whole
+      so_far.bytes z
+      ∙ ap (λ (l : List ℕ). level_number job (held (suc z) l (take k job.loads))) whole
       ∙ ap (λ (l : List ℕ). level_number job (held (suc z) plan l)) loads
       ∙ ap (λ (n : ℕ). byte (suc n)) (sym (zero-add z))
       ∙ sym (each_at byte 0 job.islands z (omega arith)))
 
   -- one turn: the load at k is at least as heavy as those before it
-  module _ (ordered : Ordered ws) (as_long : length plan ≡ length ws) (k : ℕ) (some : k < length ws) where
+  module _ (ordered : Ordered job.loads) (as_long : length plan ≡ length job.loads) (k : ℕ) (some : k < length job.loads) where
     by_top :
         (after : List ℕ)
-        → length after ≡ islands
-        → ((job : Job)
-        → Looked job.table.frequencies ws steps
-        → (z : ℕ)
-        → get_or after z 0 ≡ number job (top plan ws (suc z) (suc k)))
+        → length after ≡ job.islands
+        → ((z : ℕ) → get_or after z 0 ≡ number job (top plan job.loads (suc z) (suc k)))
         → SoFar (k + 1) after
     unfolding top number level_number active
     by_top after sized bytes = subst (λ (n : ℕ). SoFar n after) (sym (add-one k)) (record { sized = sized; bytes = bytes })
 
     module _ (numbers : List ℕ) (so_far : SoFar k numbers) (after : List ℕ) where
-      pub so_far_idle : after ≡ numbers → get_or ws k 0 ≤ 0 → SoFar (k + 1) after
+      pub so_far_idle : after ≡ numbers → get_or job.loads k 0 ≤ 0 → SoFar (k + 1) after
       unfolding top number level_number active
       so_far_idle kept idle =
           by_top after (ap (λ (l : List ℕ). length l) kept ∙ so_far.sized)
-          (λ job looked z.
+          (λ z.
           ap (λ (l : List ℕ). get_or l z 0) kept
-          ∙ so_far.bytes job looked z
-          ∙ ap (λ (w : ℕ). number job w) (sym (top_idle plan ws as_long k some ordered idle (suc z))))
+          ∙ so_far.bytes z
+          ∙ ap (λ (w : ℕ). number job w) (sym (top_idle plan job.loads as_long k some ordered idle (suc z))))
 
       pub so_far_more :
           (i : ℕ)
           → after ≡ set numbers i (get_or steps k 0 + 1)
-          → 0 < get_or ws k 0
-          → Named 0 islands plan
+          → 0 < get_or job.loads k 0
+          → Looked job.table.frequencies job.loads steps
+          → Named 0 job.islands plan
           → i ≡ get_or plan k 0 - 1
           → SoFar (k + 1) after
       unfolding top number level_number active level_of
-      so_far_more i stored heavy named place =
+      so_far_more i stored heavy looked named place =
           let v = get_or steps k 0 + 1 in
           let range = named k (omega arith) in
           by_top after (ap (λ (l : List ℕ). length l) stored ∙ length-set numbers i v ∙ so_far.sized)
-          (λ job looked z.
+          (λ z.
           ap (λ (l : List ℕ). get_or l z 0) stored
           ∙ elim (ℕ_discrete z i) [
             | yes e ↦
                 ap (λ (n : ℕ). get_or (set numbers i v) n 0) e
                 ∙ get_or-set_same numbers i v 0 (omega (arith, so_far.sized))
-                ∙ rw (top_same plan ws as_long k some ordered (suc z) (omega arith), lt-ltb 0 (get_or ws k 0) heavy, ← looked k some)
+                ∙ rw (top_same plan job.loads as_long k some ordered (suc z) (omega arith), lt-ltb 0 (get_or job.loads k 0) heavy, ← looked k some)
                 (add-one _)
             | no other ↦
                 get_or-set_other numbers i z v 0 other
-                ∙ so_far.bytes job looked z
-                ∙ ap (λ (w : ℕ). number job w) (sym (top_other plan ws as_long k some (suc z) (λ e. other (omega arith))))
+                ∙ so_far.bytes z
+                ∙ ap (λ (w : ℕ). number job w) (sym (top_other plan job.loads as_long k some (suc z) (λ e. other (omega arith))))
           ])

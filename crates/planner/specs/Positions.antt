@@ -5,13 +5,10 @@
 --     Charged         what an island is charged whose heaviest load is that one
 --     Below           every entry of a list is below a bound
 --     Blank           every entry of a list is 0
---     LevelNumbers    the level bytes that the levels of the loads give, whatever the job's table
 -- Assumes nothing.
 use Rattle.std.specs.Prelude.{ℕ, ◌<◌, ◌≡◌, List, length, get_or}
 use Rattle.model.specs.Table.{Table}
 use Rattle.model.specs.Level.{lowest, cost}
-use Rattle.model.specs.Job.{Job}
-use Rattle.model.specs.Power.{levels}
 
 abbrev pub Looked : (frequencies ws steps : List ℕ) → Type 0
 Looked frequencies ws steps = (k : ℕ) → k < length ws → get_or steps k 0 ≡ lowest frequencies (get_or ws k 0)
@@ -27,7 +24,3 @@ Below bound xs = (k : ℕ) → k < length xs → get_or xs k 0 < bound
 
 abbrev pub Blank : List ℕ → Type 0
 Blank xs = (k : ℕ) → get_or xs k 0 ≡ 0
-
-abbrev pub LevelNumbers : (ws plan steps : List ℕ) (islands : ℕ) (numbers : List ℕ) → Type 0
-LevelNumbers ws plan steps islands numbers =
-    (job : Job) → job.loads ≡ ws → job.islands ≡ islands → Looked job.table.frequencies ws steps → numbers ≡ levels job plan

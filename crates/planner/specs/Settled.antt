@@ -1,23 +1,16 @@
 -- What is settled before anything is written into the lent buffers, and what is then written.
---     Carried       every load has a level that is fast enough
 --     Solved        the least total of the whole board and its full plan, for every charge that the charges of the positions agree with
 --     SettledJob    the level of each position of a job, its least total and its full plan
---     Leveled       a list of level bytes begins with those that the islands and the levels of the loads give, whatever the job's table
 --     HandedBack    the least total of a job, and both lent buffers: what is written, and behind it what they held
 -- Assumes nothing.
-use Rattle.std.specs.Prelude.{ℕ, ◌<◌, ◌≡◌, List, ◌++◌, length, get_or, drop}
-use Rattle.model.specs.Table.{Table}
+use Rattle.std.specs.Prelude.{ℕ, ◌≡◌, List, ◌++◌, length, drop}
 use Rattle.model.specs.Job.{Job}
 use Rattle.model.specs.Power.{levels}
 use Rattle.model.specs.Plan.{padded, shown}
-use Rattle.model.specs.Placement.{FastEnough}
 use Rattle.optimum.specs.Best.{best}
 use Rattle.optimum.specs.Chosen.{plan_run}
 use Rattle.optimum.specs.OfJob.{best_of, plan_of}
 use Rattle.planner.specs.Positions.{Looked, Charged}
-
-abbrev pub Carried : Table → List ℕ → Type 0
-Carried t ws = (k : ℕ) → k < length ws → FastEnough t (get_or ws k 0)
 
 abbrev pub Solved : (Q own : ℕ) (ws rates : List ℕ) (v total : ℕ) (full : List ℕ) → Type 0
 Solved Q own ws rates v total full =
@@ -29,14 +22,6 @@ pub record SettledJob (job : Job) (steps : List ℕ) (total : ℕ) (full : List 
   pub looked : Looked job.table.frequencies (padded job) steps
   pub least : total ≡ best_of job
   pub chosen : full ≡ plan_of job
-
-abbrev pub Leveled : (ws plan steps : List ℕ) (islands : ℕ) (before after : List ℕ) → Type 0
-Leveled ws plan steps islands before after =
-    (job : Job)
-    → job.loads ≡ ws
-    → job.islands ≡ islands
-    → Looked job.table.frequencies ws steps
-    → after ≡ levels job plan ++ drop islands before
 
 pub record HandedBack (job : Job) (plan₀ levels₀ : List ℕ) (total : ℕ) (planned leveled : List ℕ) : Type 0 where
   pub least : total ≡ best_of job

@@ -2,6 +2,7 @@
 #![tactic(auto)]
 
 mod bytes;
+pub mod job;
 pub mod plan;
 mod positions;
 mod refuse;

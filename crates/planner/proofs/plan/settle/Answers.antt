@@ -1,58 +1,44 @@
--- `settle`: the costs of the levels that are looked up are what islands are charged. They stand in the part of a local array that was
--- lent and came back. Assumes nothing.
-use Rattle.std.proofs.Common.{◌≡◌, sym, ap, ◌∙◌, subst, ℕ, List, ◌++◌, ◌-◌, length, take, drop, arith}
-use lib.ListN.{replicate}
-use Rattle.model.specs.Limits.{most_places}
-use Rattle.model.specs.Table.{Table, WellShaped, WellRanged}
+-- `settle`: the costs of the levels that are looked up are what islands are charged. Assumes nothing.
+use Rattle.std.proofs.Common.{sym, ◌∙◌, subst, ℕ, List, arith}
 use Rattle.model.specs.Level.{charge}
-use Rattle.optimum.specs.Best.{best}
-use Rattle.optimum.specs.Chosen.{plan_run}
-use Rattle.table.specs.Judged.{table_of}
-use Rattle.planner.specs.Positions.{Looked, Costed, Charged}
-use Rattle.planner.specs.Bounds.{Cheap}
-use Rattle.planner.specs.Settled.{Carried}
-use Rattle.planner.proofs.Laying.{below, priced, part_front}
+use Rattle.model.specs.Power.{own}
+use Rattle.optimum.specs.OfJob.{best_of, plan_of}
+use Rattle.planner.specs.Given.{given}
+use Rattle.planner.specs.Positions.{Looked}
+use Rattle.planner.proofs.Laying.{whole, light, below, priced}
 use Rattle.planner.proofs.plan.settle.Goals as goal
 
--- what is known of the lent part
-known :
-    (t : Table) (ws steps rates : List ℕ)
-    → length steps ≡ length ws
-    → Looked t.frequencies ws steps
-    → Carried t ws
-    → length rates ≡ length ws
-    → Costed t steps rates
-    → WellShaped t
-    → WellRanged t
-    → Cheap ws (take (length ws - 0) (rates ++ drop (length ws - 0) (replicate most_places 0)))
-    × Charged (charge t) ws (take (length ws - 0) (rates ++ drop (length ws - 0) (replicate most_places 0)))
-known t ws steps rates as_long looked carried as_many costed shaped ranged =
-    subst (λ (l : List ℕ). Cheap ws l × Charged (charge t) ws l)
-    (sym (part_front (length ws) (replicate most_places 0) rates as_many))
-    (priced t ws steps as_long looked carried rates as_many costed shaped ranged)
+pub look_up-requires : goal.look_up-requires
+look_up-requires c =
+    c.requires.step_a_position ∙ sym (whole (given c.args.sound.now.job) c.args.sound.now.passed _ c.requires.laid_out)
 
 pub charge_all-requires-clause-steps_in_table : goal.charge_all-requires-clause-steps_in_table
 charge_all-requires-clause-steps_in_table c =
-    below (table_of c.args.frequencies.now c.args.powers.now) c.args.positions.now c.look_up.new.steps (omega arith) c.look_up.ensures
-    c.requires.carried
+    below (given c.args.sound.now.job) c.args.sound.now.passed _ c.requires.laid_out _ (omega arith) c.look_up.ensures
+
+pub solve-requires-clause-positions_len : goal.solve-requires-clause-positions_len
+solve-requires-clause-positions_len c =
+    rw (c.islands.ensures, c.cores.ensures)
+    (whole (given c.args.sound.now.job) c.args.sound.now.passed _ c.requires.laid_out, c.requires.island_a_position)
+
+pub solve-requires-clause-light : goal.solve-requires-clause-light
+solve-requires-clause-light c = light (given c.args.sound.now.job) c.args.sound.now.passed _ c.requires.laid_out
 
 pub solve-requires-clause-cheap : goal.solve-requires-clause-cheap
 solve-requires-clause-cheap c =
-    (known (table_of c.args.frequencies.now c.args.powers.now) c.args.positions.now c.look_up.new.steps c.charge_all.new.rates (omega arith)
-    c.look_up.ensures c.requires.carried (omega arith) c.charge_all.ensures c.requires.shaped c.requires.ranged).0
+    (priced (given c.args.sound.now.job) c.args.sound.now.passed _ c.requires.laid_out _ (omega arith) c.look_up.ensures _ _
+    c.places-places.ensures.product c.charge_all.auto.rates c.charge_all.ensures).0
 
 pub returns : goal.returns
+unfolding own best_of plan_of
 returns c =
-    let rate = charge (table_of c.args.frequencies.now c.args.powers.now) in
+    let job = given c.args.sound.now.job in
     let charged =
-    (known (table_of c.args.frequencies.now c.args.powers.now) c.args.positions.now c.look_up.new.steps c.charge_all.new.rates
-    (omega arith) c.look_up.ensures c.requires.carried (omega arith) c.charge_all.ensures c.requires.shaped
-    c.requires.ranged).1 in
-    let solved = c.solve.ensures rate charged in
+    (priced job c.args.sound.now.passed _ c.requires.laid_out _ (omega arith) c.look_up.ensures _ _
+    c.places-places.ensures.product c.charge_all.auto.rates c.charge_all.ensures).1 in
+    let solved = c.solve.ensures (charge job.table) charged in
     record {
-      looked = c.look_up.ensures;
-      least =
-          solved.0 ∙ ap (λ (o : ℕ). best c.args.cores o rate c.args.positions.now 0 c.args.islands) c.from.ensures;
-      chosen =
-          solved.1 ∙ ap (λ (o : ℕ). plan_run c.args.cores o rate c.args.positions.now 0 0 c.args.islands) c.from.ensures;
+      looked = subst (λ (ws : List ℕ). Looked job.table.frequencies ws c.look_up.new.steps) c.requires.laid_out c.look_up.ensures;
+      least = rw (← c.requires.laid_out, ← c.from.ensures, ← c.islands.ensures, ← c.cores.ensures) solved.0;
+      chosen = rw (← c.requires.laid_out, ← c.from.ensures, ← c.islands.ensures, ← c.cores.ensures) solved.1;
     }
