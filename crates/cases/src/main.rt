@@ -3,116 +3,160 @@
 #![tactic(auto)]
 
 use board::Board;
-use model::Planned;
+use planner::job::Job;
+use planner::plan::plan;
 use std::io;
+use table::Table;
 use units::{Microwatts, Picowatts};
 
-fn line(rt: &impl Print, case: u64, answer: u32, total: Picowatts) -> io::Result<()> {
+const T: Table<'static> = Table {
+    frequencies: &[100000, 200000, 400000],
+    powers: &[10000, 40000, 160000],
+};
+
+// Plans a job with buffers of its own, long enough for every board.
+fn show(rt: &impl Print, case: u64, job: Job<'_>) -> io::Result<()> {
+    let mut plan_bytes = [0u8; Board::PLACES];
+    let mut level_bytes = [0u8; Board::PLACES];
+    let (answer, total) = match plan(&job, &mut plan_bytes, &mut level_bytes) {
+        Ok(total) => (0, total),
+        Err(cause) => (u32::from(cause), Picowatts(0)),
+    };
     println!(rt; "{case},{answer},{}", total.0)
 }
 
-// Plans a job with buffers of its own, long enough for every board.
-fn show(
-    rt: &impl Print,
-    case: u64,
-    islands: u64,
-    cores: u64,
-    power: Microwatts,
-    frequencies: &[u32],
-    powers: &[u32],
-    loads: &[u64],
-) -> io::Result<()> {
-    let mut plan = [0u8; Board::PLACES];
-    let mut levels = [0u8; Board::PLACES];
-    let planned = planner::plan::plan(
-        islands,
-        cores,
-        power,
-        frequencies,
-        powers,
-        loads,
-        &mut plan,
-        &mut levels,
-    );
-    match planned {
-        Planned::Total(total) => line(rt, case, 0, total),
-        Planned::Refused(cause) => line(rt, case, model::number(cause), Picowatts(0)),
-    }
-}
-
-// The same with table T.
-fn show_t(
-    rt: &impl Print,
-    case: u64,
-    islands: u64,
-    cores: u64,
-    power: Microwatts,
-    loads: &[u64],
-) -> io::Result<()> {
-    let frequencies = [100000u32, 200000, 400000];
-    let powers = [10000u32, 40000, 160000];
+// Cases with table T on two islands of two cores.
+fn cases_1_to_8(rt: &impl Print) -> io::Result<()> {
+    let four = Job {
+        islands: 2,
+        cores: 2,
+        island_power: Microwatts(0),
+        table: T,
+        loads: &[50000, 100000, 200000, 400000],
+    };
+    show(rt, 1, four)?;
     show(
         rt,
-        case,
-        islands,
-        cores,
-        power,
-        &frequencies,
-        &powers,
-        loads,
-    )
+        2,
+        Job {
+            island_power: Microwatts(20000),
+            ..four
+        },
+    )?;
+    let zeros = Job {
+        loads: &[0, 0, 100000, 100000],
+        ..four
+    };
+    show(rt, 3, zeros)?;
+    show(
+        rt,
+        4,
+        Job {
+            island_power: Microwatts(1),
+            ..zeros
+        },
+    )?;
+    let two = Job {
+        loads: &[100000, 400000],
+        ..four
+    };
+    show(rt, 5, two)?;
+    show(
+        rt,
+        6,
+        Job {
+            island_power: Microwatts(30000),
+            ..two
+        },
+    )?;
+    show(
+        rt,
+        7,
+        Job {
+            island_power: Microwatts(40000),
+            ..two
+        },
+    )?;
+    show(rt, 8, Job { loads: &[], ..four })
 }
 
-fn cases_1_to_8(rt: &impl Print) -> io::Result<()> {
-    let four = [50000u64, 100000, 200000, 400000];
-    show_t(rt, 1, 2, 2, Microwatts(0), &four)?;
-    show_t(rt, 2, 2, 2, Microwatts(20000), &four)?;
-    let zeros = [0u64, 0, 100000, 100000];
-    show_t(rt, 3, 2, 2, Microwatts(0), &zeros)?;
-    show_t(rt, 4, 2, 2, Microwatts(1), &zeros)?;
-    let two = [100000u64, 400000];
-    show_t(rt, 5, 2, 2, Microwatts(0), &two)?;
-    show_t(rt, 6, 2, 2, Microwatts(30000), &two)?;
-    show_t(rt, 7, 2, 2, Microwatts(40000), &two)?;
-    show_t(rt, 8, 2, 2, Microwatts(0), &two[0..0])
-}
-
-fn case_11(rt: &impl Print) -> io::Result<()> {
-    let frequencies = [100000u32, 200000];
-    let powers = [10000u32, 19999];
+// One load, or three, on one island.
+fn cases_9_to_12(rt: &impl Print) -> io::Result<()> {
+    let one = Job {
+        islands: 1,
+        cores: 1,
+        island_power: Microwatts(0),
+        table: Table {
+            frequencies: &[3000],
+            powers: &[1],
+        },
+        loads: &[3000],
+    };
+    show(rt, 9, one)?;
+    show(
+        rt,
+        10,
+        Job {
+            table: T,
+            loads: &[400001],
+            ..one
+        },
+    )?;
+    let falling = Table {
+        frequencies: &[100000, 200000],
+        powers: &[10000, 19999],
+    };
     show(
         rt,
         11,
-        1,
-        1,
-        Microwatts(0),
-        &frequencies,
-        &powers,
-        &[100000u64],
+        Job {
+            table: falling,
+            loads: &[100000],
+            ..one
+        },
+    )?;
+    show(
+        rt,
+        12,
+        Job {
+            cores: 2,
+            table: T,
+            loads: &[2, 1, 0],
+            ..one
+        },
     )
 }
 
-fn case_13(rt: &impl Print) -> io::Result<()> {
-    let frequencies = [354400u32, 1000000];
-    let powers = [89025u32, 2000000];
-    let mut loads = [354400u64; 8];
-    loads[7] = 1000000;
-    show(rt, 13, 8, 8, Microwatts(0), &frequencies, &powers, &loads)
-}
-
-fn case_14(rt: &impl Print) -> io::Result<()> {
-    let power = Microwatts(1000000000);
-    let loads = [4000000u64; 64];
-    show(rt, 14, 8, 8, power, &[4000000u32], &[10000000u32], &loads)
+// Boards of the largest size, the last with a full one at its limits.
+fn cases_13_and_14(rt: &impl Print) -> io::Result<()> {
+    let eight = Job {
+        islands: 8,
+        cores: 8,
+        island_power: Microwatts(0),
+        table: Table {
+            frequencies: &[354400, 1000000],
+            powers: &[89025, 2000000],
+        },
+        loads: &[
+            354400, 354400, 354400, 354400, 354400, 354400, 354400, 1000000,
+        ],
+    };
+    show(rt, 13, eight)?;
+    let full = Job {
+        island_power: Microwatts(1000000000),
+        table: Table {
+            frequencies: &[4000000],
+            powers: &[10000000],
+        },
+        loads: &[4000000; Board::PLACES],
+        ..eight
+    };
+    show(rt, 14, full)
 }
 
 fn main(rt: HostRuntime) -> io::Result<()> {
     println!(rt; "case,answer,picowatts")?;
     cases_1_to_8(&rt)?;
-    show(&rt, 9, 1, 1, Microwatts(0), &[3000u32], &[1u32], &[3000u64])?;
-    show_t(&rt, 10, 1, 1, Microwatts(0), &[400001u64])?;
-    case_11(&rt)?;
-    show_t(&rt, 12, 1, 2, Microwatts(0), &[2u64, 1, 0])?;
-    case_13(&rt)?;
-    case_14(&rt)
+    cases_9_to_12(&rt)?;
+    cases_13_and_14(&rt)
 }

@@ -5,7 +5,8 @@
 ghost use Rattle.model.specs.Answer.{Answered};
 ghost use Rattle.planner.specs.Given.{job_of};
 
-use model::Planned;
+use planner::job::Job;
+use table::Table;
 use units::Microwatts;
 
 // Plans a job: the planner's own answer, 0 or the number of the first cause that applies, with the total in `total_pw`.
@@ -22,24 +23,24 @@ pub fn mizhgavul_plan(
 ) -> u32
     ensures { Answered (job_of islands cores island_power_uw frequencies_khz.now powers_uw.now loads_khz.now) plan.old levels.old result total_pw.new plan.new levels.new }
 {
-    let planned = planner::plan::plan(
+    let job = Job {
         islands,
         cores,
-        Microwatts(island_power_uw),
-        frequencies_khz,
-        powers_uw,
-        loads_khz,
-        plan,
-        levels,
-    );
-    match planned {
-        Planned::Total(total) => {
+        island_power: Microwatts(island_power_uw),
+        table: Table {
+            frequencies: frequencies_khz,
+            powers: powers_uw,
+        },
+        loads: loads_khz,
+    };
+    match planner::plan::plan(&job, plan, levels) {
+        Ok(total) => {
             *total_pw = total.0;
             0
         }
-        Planned::Refused(cause) => {
+        Err(cause) => {
             *total_pw = 0;
-            model::number(cause)
+            u32::from(cause)
         }
     }
 }

@@ -4,13 +4,22 @@
 #![tactic(auto)]
 
 use std::io;
-use table::Judged;
+use table::Table;
 use units::Kilohertz;
 
+const T: Table<'static> = Table {
+    frequencies: &[100000, 200000, 400000],
+    powers: &[10000, 40000, 160000],
+};
+
 fn show(rt: &impl Print, name: &str, frequencies: &[u32], powers: &[u32]) -> io::Result<()> {
-    let number = match table::judge(frequencies, powers) {
-        Judged::Sound => 0,
-        Judged::Refused(cause) => model::number(cause),
+    let table = Table {
+        frequencies,
+        powers,
+    };
+    let number = match table.judge() {
+        Ok(()) => 0,
+        Err(cause) => u32::from(cause),
     };
     println!(rt; "{name},{number}")
 }
@@ -79,12 +88,7 @@ fn slopes(rt: &impl Print) -> io::Result<()> {
         &[100000u32, 200000],
         &[10000u32, 20000],
     )?;
-    show(
-        rt,
-        "table T",
-        &[100000u32, 200000, 400000],
-        &[10000u32, 40000, 160000],
-    )?;
+    show(rt, "table T", T.frequencies, T.powers)?;
     show(
         rt,
         "widest products",
@@ -94,8 +98,7 @@ fn slopes(rt: &impl Print) -> io::Result<()> {
 }
 
 fn show_level(rt: &impl Print, load: u64) -> io::Result<()> {
-    let level = table::level(&[100000u32, 200000, 400000], Kilohertz(load));
-    println!(rt; "{load},{level}")
+    println!(rt; "{load},{}", T.level(Kilohertz(load)))
 }
 
 // A load between two levels, at one and past one; and one whose lower 32 bits would fit.
