@@ -3,7 +3,7 @@
 // shows it.
 ghost use Rattle.std.specs.Prelude.{◌≡◌, ◌++◌, ◌*◌, ◌≤◌, length, drop};
 ghost use Rattle.model.specs.Limits.{most_levels};
-ghost use Rattle.model.specs.Plan.{Named, padded};
+ghost use Rattle.model.specs.Plan.{Named};
 ghost use Rattle.model.specs.Power.{levels as level_bytes};
 ghost use Rattle.model.specs.Refusals.{FitSizes, RoomEnough, number_of};
 ghost use Rattle.model.specs.Answer.{total_of, Answered};
@@ -55,16 +55,19 @@ fn solve(
     best_at(&bests, cores, 0, islands)
 }
 
-// The same, with the level of each position, from the table.
-fn settle(sound: &Sound<'_>, positions: &[u64], steps: &mut [u8], full: &mut [u8]) -> Picowatts
-    requires laid_out { positions.now ≡ padded (given sound.now.job) }
+// The same for a job that nothing refuses, with the level of each position: the loads are laid out behind the padding, and each is looked up
+// in the table and charged.
+fn settle(sound: &Sound<'_>, steps: &mut [u8], full: &mut [u8]) -> Picowatts
     requires step_a_position { length steps.old ≡ (given sound.now.job).islands * (given sound.now.job).cores }
     requires island_a_position { length full.old ≡ (given sound.now.job).islands * (given sound.now.job).cores }
     ensures { SettledJob (given sound.now.job) steps.new result.0 full.new }
 {
-    look_up(sound, positions, steps);
     let places = sound.places();
+    let mut positions = [0u64; Board::PLACES];
     let mut rates = [0u64; Board::PLACES];
+    positions[sound.padding()..places].copy_from_slice(sound.job.loads);
+    let positions = &positions[..places];
+    look_up(sound, positions, steps);
     charge_all(sound, steps, &mut rates[..places]);
     solve(
         positions,
@@ -74,18 +77,6 @@ fn settle(sound: &Sound<'_>, positions: &[u64], steps: &mut [u8], full: &mut [u8
         Picowatts::from(sound.job.island_power),
         full,
     )
-}
-
-// The same for the loads of the job, laid out behind the padding.
-fn settle_job(sound: &Sound<'_>, steps: &mut [u8], full: &mut [u8]) -> Picowatts
-    requires step_a_position { length steps.old ≡ (given sound.now.job).islands * (given sound.now.job).cores }
-    requires island_a_position { length full.old ≡ (given sound.now.job).islands * (given sound.now.job).cores }
-    ensures { SettledJob (given sound.now.job) steps.new result.0 full.new }
-{
-    let places = sound.places();
-    let mut positions = [0u64; Board::PLACES];
-    positions[sound.padding()..places].copy_from_slice(sound.job.loads);
-    settle(sound, &positions[..places], steps, full)
 }
 
 // Writes both buffers, from the island and the level of each load.
@@ -115,7 +106,7 @@ fn planned(sound: &Sound<'_>, plan: &mut [u8], levels: &mut [u8]) -> Picowatts
     let front = sound.padding();
     let mut steps = [0u8; Board::PLACES];
     let mut full = [0u8; Board::PLACES];
-    let total = settle_job(sound, &mut steps[..places], &mut full[..places]);
+    let total = settle(sound, &mut steps[..places], &mut full[..places]);
     hand_back(
         sound,
         &full[front..places],

@@ -1,44 +1,56 @@
--- `settle`: the costs of the levels that are looked up are what islands are charged. Assumes nothing.
-use Rattle.std.proofs.Common.{sym, ◌∙◌, subst, ℕ, List, arith}
+-- `settle`: what is laid out in the lent part of a local array are the padded loads, and the costs of the levels that are looked up are
+-- what islands are charged. Assumes nothing.
+use Rattle.std.proofs.Common.{sym, ◌∙◌, subst, ℕ, List}
 use Rattle.model.specs.Level.{charge}
 use Rattle.model.specs.Power.{own}
 use Rattle.optimum.specs.OfJob.{best_of, plan_of}
 use Rattle.planner.specs.Given.{given}
 use Rattle.planner.specs.Positions.{Looked}
-use Rattle.planner.proofs.Laying.{whole, light, below, priced}
+use Rattle.planner.proofs.Laying.{laid, whole, light, below, priced}
 use Rattle.planner.proofs.plan.settle.Goals as goal
 
 pub look_up-requires : goal.look_up-requires
 look_up-requires c =
-    c.requires.step_a_position ∙ sym (whole (given c.args.sound.now.job) c.args.sound.now.passed _ c.requires.laid_out)
+    let job = given c.args.sound.now.job in
+    c.requires.step_a_position
+    ∙ sym (whole job c.args.sound.now.passed _ (laid job c.args.sound.now.passed _ _ _ c.places-places.ensures.product c.padding.ensures c.copy_from_slice.ensures.after))
 
 pub charge_all-requires-clause-steps_in_table : goal.charge_all-requires-clause-steps_in_table
 charge_all-requires-clause-steps_in_table c =
-    below (given c.args.sound.now.job) c.args.sound.now.passed _ c.requires.laid_out _ (omega arith) c.look_up.ensures
+    let job = given c.args.sound.now.job in
+    below job c.args.sound.now.passed _ (laid job c.args.sound.now.passed _ _ _ c.places-places.ensures.product c.padding.ensures c.copy_from_slice.ensures.after) _
+    (c.look_up.auto.steps ∙ c.requires.step_a_position) c.look_up.ensures
 
 pub solve-requires-clause-positions_len : goal.solve-requires-clause-positions_len
 solve-requires-clause-positions_len c =
+    let job = given c.args.sound.now.job in
     rw (c.islands.ensures, c.cores.ensures)
-    (whole (given c.args.sound.now.job) c.args.sound.now.passed _ c.requires.laid_out, c.requires.island_a_position)
+    (whole job c.args.sound.now.passed _ (laid job c.args.sound.now.passed _ _ _ c.places-places.ensures.product c.padding.ensures c.copy_from_slice.ensures.after), c.requires.island_a_position)
 
 pub solve-requires-clause-light : goal.solve-requires-clause-light
-solve-requires-clause-light c = light (given c.args.sound.now.job) c.args.sound.now.passed _ c.requires.laid_out
+solve-requires-clause-light c =
+    let job = given c.args.sound.now.job in
+    light job c.args.sound.now.passed _ (laid job c.args.sound.now.passed _ _ _ c.places-places.ensures.product c.padding.ensures c.copy_from_slice.ensures.after)
 
 pub solve-requires-clause-cheap : goal.solve-requires-clause-cheap
 solve-requires-clause-cheap c =
-    (priced (given c.args.sound.now.job) c.args.sound.now.passed _ c.requires.laid_out _ (omega arith) c.look_up.ensures _ _
-    c.places-places.ensures.product c.charge_all.auto.rates c.charge_all.ensures).0
+    let job = given c.args.sound.now.job in
+    (priced job c.args.sound.now.passed _ (laid job c.args.sound.now.passed _ _ _ c.places-places.ensures.product c.padding.ensures c.copy_from_slice.ensures.after) _
+    (c.look_up.auto.steps ∙ c.requires.step_a_position) c.look_up.ensures _ _ c.places-places.ensures.product c.charge_all.auto.rates
+    c.charge_all.ensures).0
 
 pub returns : goal.returns
 unfolding own best_of plan_of
 returns c =
     let job = given c.args.sound.now.job in
+    let laid_out = (laid job c.args.sound.now.passed _ _ _ c.places-places.ensures.product c.padding.ensures c.copy_from_slice.ensures.after) in
     let charged =
-    (priced job c.args.sound.now.passed _ c.requires.laid_out _ (omega arith) c.look_up.ensures _ _
-    c.places-places.ensures.product c.charge_all.auto.rates c.charge_all.ensures).1 in
+    (priced job c.args.sound.now.passed _ laid_out _
+    (c.look_up.auto.steps ∙ c.requires.step_a_position) c.look_up.ensures _ _ c.places-places.ensures.product c.charge_all.auto.rates
+    c.charge_all.ensures).1 in
     let solved = c.solve.ensures (charge job.table) charged in
     record {
-      looked = subst (λ (ws : List ℕ). Looked job.table.frequencies ws c.look_up.new.steps) c.requires.laid_out c.look_up.ensures;
-      least = rw (← c.requires.laid_out, ← c.from.ensures, ← c.islands.ensures, ← c.cores.ensures) solved.0;
-      chosen = rw (← c.requires.laid_out, ← c.from.ensures, ← c.islands.ensures, ← c.cores.ensures) solved.1;
+      looked = subst (λ (ws : List ℕ). Looked job.table.frequencies ws c.look_up.new.steps) laid_out c.look_up.ensures;
+      least = rw (← laid_out, ← c.from.ensures, ← c.islands.ensures, ← c.cores.ensures) solved.0;
+      chosen = rw (← laid_out, ← c.from.ensures, ← c.islands.ensures, ← c.cores.ensures) solved.1;
     }
