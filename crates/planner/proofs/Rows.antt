@@ -6,7 +6,7 @@
 --     gap_by_rows   rows that are those of the recurrence give the costs of gaps that the recurrence has
 -- Assumes nothing.
 use Prim.Native.Nat.{ℕ, suc, ◌+◌, ◌-◌, ◌*◌, ◌≤◌, ◌<◌}
-use mathlib.Core.Path.{◌≡◌, sym, ap, ◌∙◌}
+use mathlib.Core.Path.{◌≡◌, sym, ap, subst, ◌∙◌}
 use mathlib.Core.List.{List}
 use native.Mathlib.Nat.{sub-le}
 use native.Mathlib.Decide.{ℕ_discrete}
@@ -14,8 +14,8 @@ use native.Mathlib.Omega.{arith}
 use lib.ListN.{length, get_or, set}
 use lib.Seq.{get_or-set_same, get_or-set_other}
 use Rattle.model.specs.Limits.{most_islands}
-use Rattle.optimum.specs.Best.{least, load_at, fill, gap_cost}
-use Rattle.optimum.proofs.First.{least_same}
+use Rattle.optimum.specs.Best.{first, least, load_at, fill, gap_cost}
+use Rattle.optimum.proofs.First.{first_new, first_kept, least_same}
 use Rattle.optimum.proofs.Recurrence.{fill_lowest, fill_member}
 use Rattle.planner.specs.Rows.{row_at}
 
@@ -84,3 +84,14 @@ module _ (Q : ℕ) (ws : List ℕ) (b : ℕ → ℕ → ℕ) (ρ i : ℕ) where
       (least_same n (gap_cost Q b row i r n) (gap_cost Q b (fill Q ws b ρ i r) i r n)
       (λ g bound. gap_by_rows Q b row (fill Q ws b ρ i r) i r n same g))
       ∙ sym (fill_member Q ws b ρ i r n)
+
+-- the gap of g islands against those of fewer
+module _ (g : ℕ) (h : ℕ → ℕ) (some : 0 < g) where
+  last : suc (g - 1) ≡ g
+  last = omega arith
+
+  pub gap_new : h g < h (first (g - 1) h) → first g h ≡ g
+  gap_new less = subst (λ (k : ℕ). h k < h (first (g - 1) h) → first k h ≡ k) last (first_new (g - 1) h) less
+
+  pub gap_kept : ¬ (h g < h (first (g - 1) h)) → first g h ≡ first (g - 1) h
+  gap_kept more = subst (λ (k : ℕ). ¬ (h k < h (first (g - 1) h)) → first k h ≡ first (g - 1) h) last (first_kept (g - 1) h) more

@@ -89,7 +89,7 @@ fn gap_cost(
 }
 
 // The smallest gap that costs least.
-#[tactic(auto, unfolding(optimum::specs::Best::first, optimum::specs::Best::least))]
+#[tactic(auto, using(crate::proofs::Rows::gap_new, crate::proofs::Rows::gap_kept), unfolding(optimum::specs::Best::first, optimum::specs::Best::least))]
 pub(crate) fn least_gap(
     bests: &[u64],
     rows: &[u64],
@@ -104,21 +104,17 @@ pub(crate) fn least_gap(
     ensures islands_value { result.islands ≡ first m (gap_cost cores (best_at cores bests.now) (row_at rows.now r) start r m) }
     ensures cost_value { result.cost.0 ≡ least m (gap_cost cores (best_at cores bests.now) (row_at rows.now r) start r m) }
 {
-    let mut islands = 0;
-    let mut cost = gap_cost(bests, rows, cores, start, r, m, 0).0;
-    let mut g = 0;
-    while g < m {
-        g += 1;
-        let other = gap_cost(bests, rows, cores, start, r, m, g).0;
-        if other < cost {
-            islands = g;
-            cost = other;
+    let mut least = Gap {
+        islands: 0,
+        cost: gap_cost(bests, rows, cores, start, r, m, 0),
+    };
+    for g in 1..m + 1 {
+        let cost = gap_cost(bests, rows, cores, start, r, m, g);
+        if cost < least.cost {
+            least = Gap { islands: g, cost };
         }
     }
-    Gap {
-        islands,
-        cost: Picowatts(cost),
-    }
+    least
 }
 
 // The row of the lowest member: what it is charged, and the best of the run below it.
@@ -135,8 +131,7 @@ fn lowest_row(
     requires rows_len { length rows.old ≡ most_places }
     ensures { Filling cores positions.now (best_at cores bests.now) rate.0 start rows.new 0 m }
 {
-    let mut n = 0;
-    while n <= m {
+    for n in 0..m + 1 {
         rows[n] = with_member(
             positions,
             start + n * cores,
@@ -144,7 +139,6 @@ fn lowest_row(
             best_at(bests, cores, start, n),
         )
         .0;
-        n += 1;
     }
 }
 
@@ -165,8 +159,7 @@ fn next_row(
     requires filling { Filling cores positions.now (best_at cores bests.now) rate.0 start rows.old r m }
     ensures { Filling cores positions.now (best_at cores bests.now) rate.0 start rows.new (suc r) m }
 {
-    let mut n = 0;
-    while n <= m {
+    for n in 0..m + 1 {
         let gap = least_gap(bests, rows, cores, start, r, n);
         rows[(r + 1) * MOST_ISLANDS + n] = with_member(
             positions,
@@ -174,7 +167,6 @@ fn next_row(
             rate,
             gap.cost,
         ).0;
-        n += 1;
     }
 }
 
@@ -193,10 +185,8 @@ pub(crate) fn fill_rows(
     ensures { Filling cores positions.now (best_at cores bests.now) rate.0 start rows.new (cores - 1) m }
 {
     lowest_row(bests, positions, rows, cores, start, rate, m);
-    let mut r = 0;
-    while r + 1 < cores {
+    for r in 0..cores - 1 {
         next_row(bests, positions, rows, cores, start, rate, r, m);
-        r += 1;
     }
 }
 
@@ -261,11 +251,9 @@ fn runs_of(
     ensures { Grown cores own.0 positions.now rates.now bests.old bests.new m }
 {
     let size = (m + 1) * cores;
-    let mut start = 0;
-    while start + size <= positions.len() {
+    for start in 0..(positions.len() + 1).saturating_sub(size) {
         let cost = run_cost(bests, positions, rates, rows, cores, own, start, m);
         bests[place(cores, start, m + 1)] = cost.0;
-        start += 1;
     }
 }
 
@@ -285,8 +273,7 @@ pub(crate) fn search(
     ensures bounded { Bounded cores positions.now bests.new islands }
 {
     let mut rows = [0u64; Board::PLACES];
-    let mut m = 0;
-    while m < islands {
+    for m in 0..islands {
         // m is below MOST_ISLANDS, so the remainder is m itself; it tells the compiler how short the rows are, which halves the search.
         runs_of(
             bests,
@@ -297,6 +284,5 @@ pub(crate) fn search(
             own,
             m % MOST_ISLANDS,
         );
-        m += 1;
     }
 }

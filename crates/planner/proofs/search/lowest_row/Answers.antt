@@ -11,13 +11,9 @@ loop-n-preserved c =
     let ρ = c.args.rate.0 in
     let ws = c.args.positions.now in
     let b = best_at c.args.cores c.args.bests.now in
-    record {
-      inside = omega arith;
-      filled =
-          row_grown c.loop-n.rows 0 n n c.with_member.result.0 (omega arith) (omega arith) (fill c.args.cores ws b ρ c.args.start 0)
-          (omega arith)
-          (c.with_member.ensures
-          ∙ ap (λ (rest : ℕ). ρ * get_or ws (c.args.start + n * c.args.cores) 0 + rest) c.best_at.ensures
-          ∙ lowest_sum c.args.cores ws b ρ c.args.start n)
-          c.loop-n.invariant.filled;
-    }
+    row_grown c.loop-n.rows 0 n n c.with_member.result.0 (omega arith) (omega arith) (fill c.args.cores ws b ρ c.args.start 0)
+    (omega arith)
+    (c.with_member.ensures
+    ∙ ap (λ (rest : ℕ). ρ * get_or ws (c.args.start + n * c.args.cores) 0 + rest) c.best_at.ensures
+    ∙ lowest_sum c.args.cores ws b ρ c.args.start n)
+    c.loop-n.invariant

@@ -41,7 +41,6 @@ loop-n-preserved c =
     let f = fill c.args.cores c.args.positions.now (best_at c.args.cores c.args.bests.now) c.args.rate.0 c.args.start in
     let is = figure _ _ _ _ _ _ _ _ _ _ c.loop-n.invariant.below (omega arith) c.least_gap-gap.ensures.cost_value in
     record {
-      inside = omega arith;
       below =
           rows_kept c.loop-n.rows (suc c.args.r) n place c.with_member.result.0 at (omega arith) f c.args.r c.args.m (omega arith)
           c.requires.run_fits.few c.loop-n.invariant.below;

@@ -15,9 +15,5 @@ loop-start-preserved c =
     let within : start + suc c.args.m * c.args.cores ≤ length c.args.positions.now = omega arith in
     let stored : c.place.result ≡ place c.args.cores start (suc c.args.m) =
     c.place.ensures ∙ ap (λ (v : ℕ). place c.args.cores start v) (omega arith) in
-    record {
-      inside = omega (arith, sized.some_core);
-      growing =
-          growing_more _ _ _ _ _ _ bests start c.place.result c.run_cost-cost.result.0 sized within stored c.run_cost-cost.ensures
-          c.loop-start.invariant.growing;
-    }
+    growing_more _ _ _ _ _ _ bests start c.place.result c.run_cost-cost.result.0 sized within stored c.run_cost-cost.ensures
+    c.loop-start.invariant

@@ -11,7 +11,6 @@ use Rattle.planner.proofs.search.search.Goals as goal
 pub loop-m-init : goal.loop-m-init
 loop-m-init c =
     record {
-      inside = omega arith;
       bounded = nothing_bounded c.args.cores c.args.positions.now c.args.bests.now;
       found = nothing_filled c.args.cores c.args.own.0 c.args.positions.now c.args.rates.now c.args.bests.now;
     }
@@ -27,7 +26,6 @@ loop-m-preserved c =
     subst (λ (n : ℕ). Grown c.args.cores c.args.own.0 c.args.positions.now c.args.rates.now c.loop-m.bests c.runs_of.new.bests n)
     remainder c.runs_of.ensures in
     record {
-      inside = omega arith;
       bounded = λ i g few.
           grown_bounded _ _ _ _ _ m _ grown sized c.requires.cheap c.requires.own_le_most_own.0 (omega arith) c.loop-m.invariant.bounded i g
           (omega arith);
