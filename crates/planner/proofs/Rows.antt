@@ -4,6 +4,8 @@
 --     lowest_sum    what the code adds up for the lowest member
 --     next_sum      and for one member more
 --     gap_by_rows   rows that are those of the recurrence give the costs of gaps that the recurrence has
+--     gap_new       a gap of one island more, which costs less than all of fewer, is the first that costs least
+--     gap_kept      and one that does not is not
 -- Assumes nothing.
 use Prim.Native.Nat.{ℕ, suc, ◌+◌, ◌-◌, ◌*◌, ◌≤◌, ◌<◌}
 use mathlib.Core.Path.{◌≡◌, sym, ap, subst, ◌∙◌}
@@ -85,7 +87,6 @@ module _ (Q : ℕ) (ws : List ℕ) (b : ℕ → ℕ → ℕ) (ρ i : ℕ) where
       (λ g bound. gap_by_rows Q b row (fill Q ws b ρ i r) i r n same g))
       ∙ sym (fill_member Q ws b ρ i r n)
 
--- the gap of g islands against those of fewer
 module _ (g : ℕ) (h : ℕ → ℕ) (some : 0 < g) where
   last : suc (g - 1) ≡ g
   last = omega arith

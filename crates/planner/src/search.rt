@@ -251,7 +251,10 @@ fn runs_of(
     ensures { Grown cores own.0 positions.now rates.now bests.old bests.new m }
 {
     let size = (m + 1) * cores;
-    for start in 0..(positions.len() + 1).saturating_sub(size) {
+    if positions.len() < size {
+        return;
+    }
+    for start in 0..positions.len() - size + 1 {
         let cost = run_cost(bests, positions, rates, rows, cores, own, start, m);
         bests[place(cores, start, m + 1)] = cost.0;
     }
