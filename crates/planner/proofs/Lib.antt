@@ -3,7 +3,7 @@ pub mod Charges
 pub mod Loops
 pub mod LevelBytes
 pub mod Square
-pub mod Rows
+pub mod Figures
 pub mod Fitting
 pub mod Growing
 pub mod Stores

@@ -2,8 +2,13 @@
 #![tactic(auto)]
 
 mod bytes;
+mod bests;
+mod charged;
+mod gap;
 pub mod plan;
 mod positions;
 mod refuse;
+mod rows;
 mod search;
+mod top;
 mod write;

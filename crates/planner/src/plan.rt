@@ -13,50 +13,44 @@ ghost use Rattle.optimum.specs.Passed.{Passed};
 ghost use Rattle.table.specs.Judged.{table_of};
 ghost use Rattle.planner.specs.Given.{job_of};
 ghost use Rattle.planner.specs.Positions.{Looked, Below};
-ghost use Rattle.planner.specs.Bounds.{most_own, Light, Cheap};
 ghost use Rattle.planner.specs.Settled.{Carried, Solved, SettledJob, Leveled, HandedBack};
 
+use super::bests::{Bests, SQUARE};
 use super::bytes::{copy, number_levels};
+use super::charged::Positions;
 use super::positions::{charge_all, lay_out, look_up};
 use super::refuse::judge_job;
-use super::search::{MOST_ISLANDS, SQUARE, best_at, search};
-use super::write::{Run, write_run};
+use super::rows::MOST_ISLANDS;
+use super::search::search;
+use super::write::Run;
 use board::Board;
 use model::Planned;
 use table::Judged;
 use units::{Microwatts, Picowatts};
 
 // The least total of the board, and its full plan.
-fn solve(
-    positions: &[u64],
-    rates: &[u64],
-    islands: usize,
-    cores: usize,
-    own: Picowatts,
-    full: &mut [u8],
-) -> Picowatts
-    requires fit_sizes { FitSizes islands cores }
-    requires positions_len { (length positions.now ≡ islands * cores) × (length full.old ≡ islands * cores) }
-    requires light { Light positions.now }
-    requires cheap { Cheap positions.now rates.now }
-    requires own_le_most_own { own.0 ≤ most_own }
-    ensures { Solved cores own.0 positions.now rates.now islands result.0 full.new }
+fn solve(positions: &Positions, islands: usize, full: &mut [u8]) -> Picowatts
+    requires few_islands { islands ≤ most_islands }
+    requires whole_board { length positions.now.loads.now ≡ islands * positions.now.cores }
+    requires as_long { length full.old ≡ length positions.now.loads.now }
+    ensures { Solved positions.now.cores positions.now.own.0 positions.now.loads.now positions.now.rates.now islands result.0 full.new }
 {
-    let mut bests = [0u64; SQUARE];
-    search(&mut bests, positions, rates, cores, own, islands);
-    write_run(
+    let mut totals = [0u64; SQUARE];
+    search(&mut totals, positions, islands);
+    let bests = Bests {
+        positions: *positions,
+        totals: &totals,
+        islands,
+    };
+    bests.write_run(
         full,
-        &bests,
-        positions,
-        rates,
-        cores,
         Run {
             start: 0,
             islands,
             base: 0,
         },
     );
-    best_at(&bests, cores, 0, islands)
+    bests.at(0, islands)
 }
 
 // The same, with the level of each position, from the table.
@@ -84,14 +78,13 @@ fn settle(
     look_up(frequencies, positions, steps);
     let mut rates = [0u64; Board::PLACES];
     charge_all(frequencies, powers, steps, &mut rates[0..places]);
-    solve(
-        positions,
-        &rates[0..places],
-        islands,
+    let positions = Positions {
         cores,
-        Picowatts::from(power),
-        full,
-    )
+        own: Picowatts::from(power),
+        loads: positions,
+        rates: &rates[0..places],
+    };
+    solve(&positions, islands, full)
 }
 
 // The same for a job that nothing refuses, its loads laid out behind the padding.

@@ -11,7 +11,7 @@ use Rattle.table.specs.Judged.{table_of}
 use Rattle.planner.specs.Positions.{Looked, Costed, Charged}
 use Rattle.planner.specs.Bounds.{Cheap}
 use Rattle.planner.specs.Settled.{Carried}
-use Rattle.planner.proofs.Laying.{below, priced, part_front}
+use Rattle.planner.proofs.Laying.{below, priced, light, part_front}
 use Rattle.planner.proofs.plan.settle.Goals as goal
 
 -- what is known of the lent part
@@ -36,8 +36,12 @@ charge_all-requires-clause-below c =
     below (table_of c.args.frequencies.now c.args.powers.now) c.args.positions.now c.look_up.new.steps (omega arith) c.look_up.ensures
     c.requires.carried
 
-pub solve-requires-clause-cheap : goal.solve-requires-clause-cheap
-solve-requires-clause-cheap c =
+pub invariant_of-positions-clause-light : goal.invariant_of-positions-clause-light
+invariant_of-positions-clause-light c =
+    light (table_of c.args.frequencies.now c.args.powers.now) c.args.positions.now c.requires.well_ranged c.requires.carried
+
+pub invariant_of-positions-clause-cheap : goal.invariant_of-positions-clause-cheap
+invariant_of-positions-clause-cheap c =
     (known (table_of c.args.frequencies.now c.args.powers.now) c.args.positions.now c.look_up.new.steps c.charge_all.new.rates (omega arith)
     c.look_up.ensures c.requires.carried (omega arith) c.charge_all.ensures c.requires.well_shaped c.requires.well_ranged).0
 

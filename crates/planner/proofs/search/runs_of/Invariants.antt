@@ -3,4 +3,4 @@ use Rattle.planner.proofs.Growing.{Growing}
 use Rattle.planner.proofs.search.runs_of.Given as goal
 
 abbrev pub invariant-loop-start : goal.invariant-loop-start
-invariant-loop-start l = Growing l.cores l.own.0 l.positions l.rates l.initial.bests l.m l.bests l.start
+invariant-loop-start l = Growing l.positions l.initial.totals l.m l.totals l.start

@@ -10,7 +10,7 @@
 use Prim.Native.Nat.{ℕ, suc, ◌+◌, ◌-◌, ◌*◌, ◌≤◌, ◌<◌}
 use mathlib.Core.Path.{◌≡◌, sym, ap, subst, ◌∙◌}
 use mathlib.Core.List.{List}
-use native.Mathlib.Nat.{sub-le}
+use native.Mathlib.Nat.{le_refl, sub-le}
 use native.Mathlib.Decide.{ℕ_discrete}
 use native.Mathlib.Omega.{arith}
 use lib.ListN.{length, get_or, set}
@@ -20,6 +20,11 @@ use Rattle.optimum.specs.Best.{first, least, load_at, fill, gap_cost}
 use Rattle.optimum.proofs.First.{first_new, first_kept, least_same}
 use Rattle.optimum.proofs.Recurrence.{fill_lowest, fill_member}
 use Rattle.planner.specs.Rows.{row_at}
+use Rattle.planner.specs.declared.charged.Positions.{Positions}
+use Rattle.planner.specs.declared.rows.Rows.{Rows}
+use Rattle.planner.specs.declared.top.Top.{Top}
+use Rattle.planner.specs.Square.{best_at}
+use Rattle.planner.specs.Filled.{figure, TopFilled}
 
 -- a figure c is stored at place n of row r
 module _ (rows : List ℕ) (r n place c : ℕ) (at : place ≡ r * most_islands + n) (few : n < most_islands) where
@@ -96,3 +101,24 @@ module _ (g : ℕ) (h : ℕ → ℕ) (some : 0 < g) where
 
   pub gap_kept : ¬ (h g < h (first (g - 1) h)) → first g h ≡ first (g - 1) h
   gap_kept more = subst (λ (k : ℕ). ¬ (h k < h (first (g - 1) h)) → first k h ≡ first (g - 1) h) last (first_kept (g - 1) h) more
+
+module _ (top : Top) where
+  abbrev p : Positions
+  p = top.bests.positions
+
+  abbrev b : ℕ → ℕ → ℕ
+  b = best_at p.cores top.bests.totals.now
+
+  pub lowest_figure : (n : ℕ) → top.rate.0 * get_or p.loads.now (top.start + n * p.cores) 0 + b top.start n ≡ figure top 0 n
+  lowest_figure n = lowest_sum p.cores p.loads.now b top.rate.0 top.start n
+
+  pub next_figure :
+      (rows : Rows) (r n cost : ℕ)
+      → TopFilled top rows r
+      → n ≤ top.inner
+      → cost ≡ least n (gap_cost p.cores b (row_at rows.figures r) top.start r n)
+      → top.rate.0 * get_or p.loads.now (top.start + (n * p.cores + (r + 1))) 0 + cost ≡ figure top (suc r) n
+  next_figure rows r n cost filled few is =
+      ap (λ (rest : ℕ). top.rate.0 * get_or p.loads.now (top.start + (n * p.cores + (r + 1))) 0 + rest) is
+      ∙ next_sum p.cores p.loads.now b top.rate.0 top.start (row_at rows.figures r) r n
+      (λ k fewer. filled r k (le_refl r) (omega arith))
