@@ -9,7 +9,7 @@
 --     grown_filled       a table that has the best of every shorter run then has those of one island more
 -- Assumes nothing.
 use Prim.Native.Nat.{ℕ, zero, suc, ◌+◌, ◌-◌, ◌*◌, ◌%◌, ◌≤◌, ◌<◌, zero-le}
-use mathlib.Core.Path.{◌≡◌, refl, sym, ap, ◌∙◌, subst}
+use mathlib.Core.Path.{◌≡◌, sym, ap, ◌∙◌, subst}
 use mathlib.Core.List.{List}
 use native.Mathlib.Nat.{not-suc-le-zero, le_trans, mod-eq_of_lt}
 use native.Mathlib.Decide.{dec_lt, ℕ_discrete}
@@ -67,9 +67,6 @@ module _ (p : Positions) (before : List ℕ) (m : ℕ) where
     pub kept : (i g : ℕ) → g ≤ m → i + g * Q ≤ length ws → best_at Q now i g ≡ best_at Q before i g
     pub added : (i : ℕ) → i < start → i + suc m * Q ≤ length ws → best_at Q now i (suc m) ≡ total i
 
-  pub growing_none : Growing before 0
-  growing_none = record { kept = λ i g few inside. refl; added = λ i none. absurd (not-suc-le-zero none) }
-
   pub growing_more :
       (now : List ℕ) (start at cost : ℕ)
       → length now ≡ square_size
@@ -104,18 +101,6 @@ module _ (p : Positions) (before : List ℕ) (m : ℕ) where
           → ¬ ((i ≡ start) × (g ≡ suc m))
           → best_at Q (set now (place Q start (suc m)) cost) i g ≡ best_at Q now i g
       other i g inside = best_others Q now start m cost p.some_core square room i g (le_trans inside p.few_places)
-
-  pub growing_all :
-      (now : List ℕ) (start : ℕ)
-      → length ws < start + suc m * Q
-      → Growing now start
-      → Grown Q p.own.0 ws p.rates.now before now m
-  growing_all now start ended growing =
-      record { kept = growing.kept; added = λ i inside. growing.added i (omega arith) inside }
-
-  pub growing_bounded : (now : List ℕ) (start : ℕ) → Growing now start → Bounded Q ws before m → Bounded Q ws now m
-  growing_bounded now start growing bounded i g few inside =
-      subst (λ (c : ℕ). c ≤ g * most_draw) (sym (growing.kept i g few inside)) (bounded i g few inside)
 
   module _ (after : List ℕ) (grown : Grown Q p.own.0 ws p.rates.now before after m) where
     pub grown_bounded : m < most_islands → Bounded Q ws before m → Bounded Q ws after (suc m)

@@ -1,16 +1,13 @@
 -- From the table of bests to the whole board.
---     board_places    a board has at most 64 positions
 --     board_solved    the best of the whole board, and the plan that is written over all its positions, are those of the recurrence
 -- Assumes nothing.
-use Prim.Native.Nat.{ℕ, ◌*◌, ◌≤◌, ◌<◌}
+use Prim.Native.Nat.{ℕ, ◌*◌}
 use mathlib.Core.Path.{◌≡◌, sym, ◌∙◌}
 use mathlib.Core.List.{List, append-nil}
-use native.Mathlib.Nat.{le_refl, le_of_eq, le_trans, mul-le-mul, zero-add}
+use native.Mathlib.Nat.{le_refl, le_of_eq, zero-add}
 use native.Mathlib.Omega.{arith}
 use lib.ListN.{length, drop_of_length-le}
 use lib.Seq.{sets, sets-eq}
-use Rattle.model.specs.Limits.{most_islands, most_cores, most_places}
-use Rattle.model.specs.Refusals.{FitSizes}
 use Rattle.optimum.specs.Chosen.{plan_by}
 use Rattle.optimum.proofs.Shapes.{run_length}
 use Rattle.optimum.proofs.ChosenRun.{by_run}
@@ -19,9 +16,6 @@ use Rattle.planner.specs.declared.charged.Positions.{Positions}
 use Rattle.planner.specs.Square.{best_at, Found}
 use Rattle.planner.specs.Written.{RunWritten}
 use Rattle.planner.specs.Settled.{Solved}
-
-pub board_places : (v Q : ℕ) → FitSizes v Q → v * Q ≤ most_places
-board_places v Q sizes = mul-le-mul {n₂ = most_islands} {m₂ = most_cores} sizes.few_islands sizes.few_cores
 
 -- a list that is as long as the one it is stored over
 sets_all : (before xs : List ℕ) → length xs ≡ length before → sets before 0 xs ≡ xs
