@@ -22,6 +22,7 @@ pub(crate) struct Run {
 
 impl Bests<'_> {
     // Writes the island numbers of a run: its top island has the highest.
+    #[tactic(auto, using(optimum::proofs::Recurrence::islands_parted, crate::proofs::Writing::none_written))]
     #[cycle(write_gaps_write_run)]
     pub(crate) fn write_run(&self, full: &mut [u8], run: Run)
         requires known { run.islands ≤ self.now.islands }
@@ -56,6 +57,7 @@ impl Bests<'_> {
     }
 
     // Writes the lowest r + 1 members of an island, and the runs in the gaps below them.
+    #[tactic(auto, using(optimum::proofs::First::first_within, optimum::proofs::Recurrence::islands_parted, crate::proofs::Fitting::gaps_fit))]
     #[cycle(write_gaps_write_run)]
     fn write_gaps(&self, full: &mut [u8], rows: &Rows, below: Run, r: usize, top: usize)
         requires known { below.islands ≤ self.now.islands }
