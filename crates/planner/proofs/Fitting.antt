@@ -1,10 +1,11 @@
 -- Every sum of the recurrence fits in 64 bits, for a run within the board.
 --     RunFits        a run of m + 1 islands from i on, with a low charge ρ, over a table that has low bests of shorter runs
---     top_fits       the run of a top island is one
 --     run_most       the total of a run is no more than its islands may draw
+--     cost_fits      and fits in 64 bits
+--     gaps_fit       over low rows, whatever a gap gets costs less than 2 ^ 64
 --     figure_fits    what the recurrence has for a top island's members fits in 64 bits
 --     filled_low     rows that are those of the recurrence are low enough to be added up
---     gaps_fit       over such rows, whatever a gap gets costs less than 2 ^ 64
+--     row_gaps_fit   so whatever a gap below a member gets costs less than 2 ^ 64
 -- Assumes nothing.
 use Prim.Native.Nat.{ℕ, suc, ◌+◌, ◌-◌, ◌*◌, ◌≤◌, ◌<◌, ◌^◌, zero-le}
 use mathlib.Core.Bool.{Bool, true, false, cond}
@@ -27,7 +28,7 @@ use Rattle.planner.specs.Filled.{figure, TopFilled}
 use Rattle.planner.specs.Bounds.{most_charge, most_member, most_draw, AllBelow, Bounded}
 use Rattle.planner.specs.Written.{Low}
 
-pub record RunFits (p : Positions) (totals : List ℕ) (ρ i m : ℕ) : Type 0 where
+record RunFits (p : Positions) (totals : List ℕ) (ρ i m : ℕ) : Type 0 where
   pub few : m < most_islands
   pub bounded : Bounded p.cores p.loads.now totals m
   pub within : i + suc m * p.cores ≤ length p.loads.now
@@ -97,28 +98,6 @@ cost_fits bests i m few known within =
     run_most bests.positions bests.totals.now i m few (λ j g h. bests.bounded j g (le_trans h known)) within in
     omega (arith, most, few)
 
-module _ (top : Top) where
-  abbrev p : Positions
-  p = top.bests.positions
-
-  pub top_fits : RunFits p top.bests.totals.now top.rate.0 top.start top.inner
-  top_fits =
-      record {
-        few = top.few;
-        bounded = λ i g few. top.bests.bounded i g (le_trans few top.known);
-        within = top.within;
-        low_rate = top.low_rate;
-      }
-
-  figure_most : (r n : ℕ) → r < p.cores → n ≤ top.inner → figure top r n ≤ n * most_draw + suc r * most_member
-  figure_most = row_most p top.bests.totals.now top.rate.0 top.start top.inner top_fits
-
-  pub figure_fits : (r n : ℕ) → r < p.cores → n ≤ top.inner → figure top r n < 2 ^ 64
-  figure_fits r n lower few = lt_of_le_of_lt (figure_most r n lower few) (omega (arith, top.few, p.few_cores))
-
-  pub filled_low : (rows : Rows) (r : ℕ) → r < p.cores → TopFilled top rows r → Low rows.figures r top.inner
-  filled_low rows r lower filled s n low few = omega (arith, filled s n low few, figure_most s n (omega arith) few)
-
 pub gaps_fit :
     (bests : Bests) (rows : Rows) (i r m n : ℕ)
     → Low rows.figures r m
@@ -138,11 +117,35 @@ gaps_fit bests rows i r m n low fewer known few members within g h =
       low r (n - g) (le_refl r) (omega arith),
     )
 
-module _ (top : Top) (rows : Rows) (r n : ℕ) (filled : TopFilled top rows r) (lower : suc r < top.bests.positions.cores) (few : n ≤ top.inner) where
+module _ (top : Top) where
+  abbrev p : Positions
+  p = top.bests.positions
+
+  top_fits : RunFits p top.bests.totals.now top.rate.0 top.start top.inner
+  top_fits =
+      record {
+        few = top.few;
+        bounded = λ i g few. top.bests.bounded i g (le_trans few top.known);
+        within = top.within;
+        low_rate = top.low_rate;
+      }
+
+  figure_most : (r n : ℕ) → r < p.cores → n ≤ top.inner → figure top r n ≤ n * most_draw + suc r * most_member
+  figure_most = row_most p top.bests.totals.now top.rate.0 top.start top.inner top_fits
+
+  pub figure_fits : (r n : ℕ) → r < p.cores → n ≤ top.inner → figure top r n < 2 ^ 64
+  figure_fits r n lower few = lt_of_le_of_lt (figure_most r n lower few) (omega (arith, top.few, p.few_cores))
+
+  pub filled_low : (rows : Rows) (r : ℕ) → r < p.cores → TopFilled top rows r → Low rows.figures r top.inner
+  filled_low rows r lower filled s n low few = omega (arith, filled s n low few, figure_most s n (omega arith) few)
+
   pub row_gaps_fit :
-      AllBelow (2 ^ 64) n
-      (gap_cost top.bests.positions.cores (best_at top.bests.positions.cores top.bests.totals.now) (row_at rows.figures r) top.start r n)
-  row_gaps_fit =
-      let inside = below_member top.bests.positions top.bests.totals.now top.rate.0 top.start top.inner (top_fits top) (suc r) n lower few in
-      gaps_fit top.bests rows top.start r top.inner n (filled_low top rows r (omega arith) filled) few top.known top.few
-      (omega (arith, top.bests.positions.few_cores)) (omega (arith, inside))
+      (rows : Rows) (r n : ℕ)
+      → TopFilled top rows r
+      → suc r < p.cores
+      → n ≤ top.inner
+      → AllBelow (2 ^ 64) n (gap_cost p.cores (best_at p.cores top.bests.totals.now) (row_at rows.figures r) top.start r n)
+  row_gaps_fit rows r n filled lower few =
+      gaps_fit top.bests rows top.start r top.inner n (filled_low rows r (omega arith) filled) few top.known top.few
+      (omega (arith, p.few_cores))
+      (omega (arith, below_member p top.bests.totals.now top.rate.0 top.start top.inner top_fits (suc r) n lower few))

@@ -1,8 +1,8 @@
 // The planner: one job in, one plan out. Assumes nothing.
 #![tactic(auto)]
 
-mod bytes;
 mod bests;
+mod bytes;
 mod charged;
 mod gap;
 pub mod plan;

@@ -31,7 +31,11 @@ impl Bests<'_> {
         requires as_long { length full.old ≡ length self.now.positions.loads.now }
         ensures { let p = self.now.positions in RunWritten p.cores p.loads.now p.rates.now self.now.totals.now full.old full.new run.start run.base run.islands }
     {
-        let Run { start, islands, base } = run;
+        let Run {
+            start,
+            islands,
+            base,
+        } = run;
         if islands < 1 {
             return;
         }
