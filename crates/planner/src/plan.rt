@@ -33,7 +33,7 @@ fn solve(positions: &Positions, islands: usize, full: &mut [u8]) -> Picowatts
     requires few_islands { islands ≤ most_islands }
     requires whole_board { length positions.now.loads.now ≡ islands * positions.now.cores }
     requires as_long { length full.old ≡ length positions.now.loads.now }
-    ensures { Solved positions.now.cores positions.now.own.0 positions.now.loads.now positions.now.rates.now islands result.0 full.new }
+    ensures { let p = positions.now in Solved p.cores p.own.0 p.loads.now p.rates.now islands result.0 full.new }
 {
     let mut totals = [0u64; SQUARE];
     search(&mut totals, positions, islands);

@@ -50,8 +50,8 @@ fn run_cost(bests: &Bests, rows: &mut Rows, start: usize, m: usize) -> Picowatts
 #[tactic(auto, using(crate::proofs::Square::place_within, crate::proofs::Growing::growing_more))]
 fn runs_of(totals: &mut [u64; SQUARE], positions: &Positions, rows: &mut Rows, m: usize)
     requires few { m < most_islands }
-    requires bounded { Bounded positions.now.cores positions.now.loads.now totals.old m }
-    ensures { Grown positions.now.cores positions.now.own.0 positions.now.loads.now positions.now.rates.now totals.old totals.new m }
+    requires bounded { let p = positions.now in Bounded p.cores p.loads.now totals.old m }
+    ensures { let p = positions.now in Grown p.cores p.own.0 p.loads.now p.rates.now totals.old totals.new m }
 {
     let size = (m + 1) * positions.cores;
     if positions.loads.len() < size {
@@ -72,8 +72,8 @@ fn runs_of(totals: &mut [u64; SQUARE], positions: &Positions, rows: &mut Rows, m
 #[tactic(auto, using(crate::proofs::Growing::known_more))]
 pub(crate) fn search(totals: &mut [u64; SQUARE], positions: &Positions, islands: usize)
     requires { islands ≤ most_islands }
-    ensures found { Found positions.now.cores positions.now.own.0 positions.now.loads.now positions.now.rates.now totals.new islands }
-    ensures bounded { Bounded positions.now.cores positions.now.loads.now totals.new islands }
+    ensures found { let p = positions.now in Found p.cores p.own.0 p.loads.now p.rates.now totals.new islands }
+    ensures bounded { let p = positions.now in Bounded p.cores p.loads.now totals.new islands }
 {
     let mut rows = Rows {
         figures: [0u64; Board::PLACES],
