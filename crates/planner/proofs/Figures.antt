@@ -16,7 +16,7 @@ use Rattle.optimum.proofs.First.{first_new, first_kept, least_same}
 use Rattle.optimum.proofs.Recurrence.{fill_lowest, fill_member}
 use Rattle.planner.specs.Square.{best_at}
 use Rattle.planner.specs.Rows.{row_at}
-use Rattle.planner.specs.Filled.{figure, TopFilled}
+use Rattle.planner.specs.Members.{gap_costs, figure, TopFilled}
 use Rattle.planner.specs.declared.rows.Rows.{Rows}
 use Rattle.planner.specs.declared.top.Top.{Top}
 
@@ -63,7 +63,7 @@ module _ (top : Top) where
       (rows : Rows) (r n cost : ℕ)
       → TopFilled top rows r
       → n ≤ top.inner
-      → cost ≡ least n (gap_cost Q b (row_at rows.figures r) top.start r n)
+      → cost ≡ least n (gap_costs top.bests rows top.start r n)
       → charged (top.start + (n * Q + (r + 1))) + cost ≡ figure top (suc r) n
   unfolding load_at
   next_figure rows r n cost filled few is =
@@ -71,7 +71,7 @@ module _ (top : Top) where
       ap (λ (k : ℕ). charged k + cost) (omega arith)
       ∙ ap (λ (rest : ℕ). charged (i + (n * Q + suc r)) + rest)
       (is
-      ∙ least_same n (gap_cost Q b (row_at rows.figures r) i r n) (gap_cost Q b (figure top r) i r n)
+      ∙ least_same n (gap_costs top.bests rows i r n) (gap_cost Q b (figure top r) i r n)
       (λ g within.
       gap_by_rows Q b (row_at rows.figures r) (figure top r) i r n (λ k fewer. filled r k (le_refl r) (le_trans fewer few)) g))
       ∙ sym (fill_member Q ws b top.rate.0 i r n)

@@ -23,8 +23,7 @@ use Rattle.planner.specs.declared.bests.Bests.{Bests}
 use Rattle.planner.specs.declared.rows.Rows.{Rows}
 use Rattle.planner.specs.declared.top.Top.{Top}
 use Rattle.planner.specs.Square.{best_at, run_cost}
-use Rattle.planner.specs.Rows.{row_at}
-use Rattle.planner.specs.Filled.{figure, TopFilled}
+use Rattle.planner.specs.Members.{gap_costs, figure, TopFilled}
 use Rattle.planner.specs.Bounds.{most_charge, most_member, most_draw, AllBelow, Bounded}
 use Rattle.planner.specs.Written.{Low}
 
@@ -106,8 +105,7 @@ pub gaps_fit :
     → m < most_islands
     → r < most_cores
     → i + (n * bests.positions.cores + suc r) ≤ length bests.positions.loads.now
-    → AllBelow (2 ^ 64) n
-    (gap_cost bests.positions.cores (best_at bests.positions.cores bests.totals.now) (row_at rows.figures r) i r n)
+    → AllBelow (2 ^ 64) n (gap_costs bests rows i r n)
 unfolding gap_cost
 gaps_fit bests rows i r m n low fewer known few members within g h =
     let parts = islands_parted n g bests.positions.cores h in
@@ -144,7 +142,7 @@ module _ (top : Top) where
       → TopFilled top rows r
       → suc r < p.cores
       → n ≤ top.inner
-      → AllBelow (2 ^ 64) n (gap_cost p.cores (best_at p.cores top.bests.totals.now) (row_at rows.figures r) top.start r n)
+      → AllBelow (2 ^ 64) n (gap_costs top.bests rows top.start r n)
   row_gaps_fit rows r n filled lower few =
       gaps_fit top.bests rows top.start r top.inner n (filled_low rows r (omega arith) filled) few top.known top.few
       (omega (arith, p.few_cores))

@@ -2,10 +2,9 @@
 // What that costs must fit in 64 bits; every caller within the crate shows it.
 ghost use Rattle.std.specs.Prelude.{◌≡◌, suc, ◌+◌, ◌*◌, ◌≤◌, ◌<◌, ◌^◌};
 ghost use Rattle.model.specs.Limits.{most_islands, most_cores, most_places};
-ghost use Rattle.optimum.specs.Best.{first, least, gap_cost};
-ghost use Rattle.planner.specs.Square.{best_at};
-ghost use Rattle.planner.specs.Rows.{row_at};
+ghost use Rattle.optimum.specs.Best.{first, least};
 ghost use Rattle.planner.specs.Bounds.{AllBelow};
+ghost use Rattle.planner.specs.Members.{gap_costs};
 
 use super::bests::Bests;
 use super::rows::Rows;
@@ -26,8 +25,8 @@ impl Bests<'_> {
         requires islands { m < most_islands }
         requires in_gap { g ≤ m }
         requires within { start + (m * self.now.positions.cores + suc r) ≤ most_places }
-        requires fits { let p = self.now.positions in gap_cost p.cores (best_at p.cores self.now.totals.now) (row_at rows.now.figures r) start r m g < 2 ^ 64 }
-        ensures { let p = self.now.positions in result.0 ≡ gap_cost p.cores (best_at p.cores self.now.totals.now) (row_at rows.now.figures r) start r m g }
+        requires fits { gap_costs self.now rows.now start r m g < 2 ^ 64 }
+        ensures { result.0 ≡ gap_costs self.now rows.now start r m g }
     {
         let left = m - g;
         let gap = self.at(start + (left * self.positions.cores + (r + 1)), g);
@@ -41,9 +40,9 @@ impl Bests<'_> {
         requires member { r < most_cores }
         requires islands { m < most_islands }
         requires within { start + (m * self.now.positions.cores + suc r) ≤ most_places }
-        requires all_fit { let p = self.now.positions in AllBelow (2 ^ 64) m (gap_cost p.cores (best_at p.cores self.now.totals.now) (row_at rows.now.figures r) start r m) }
-        ensures smallest { let p = self.now.positions in result.islands ≡ first m (gap_cost p.cores (best_at p.cores self.now.totals.now) (row_at rows.now.figures r) start r m) }
-        ensures least { let p = self.now.positions in result.cost.0 ≡ least m (gap_cost p.cores (best_at p.cores self.now.totals.now) (row_at rows.now.figures r) start r m) }
+        requires all_fit { AllBelow (2 ^ 64) m (gap_costs self.now rows.now start r m) }
+        ensures smallest { result.islands ≡ first m (gap_costs self.now rows.now start r m) }
+        ensures least { result.cost.0 ≡ least m (gap_costs self.now rows.now start r m) }
     {
         let mut least = Gap {
             islands: 0,

@@ -31,7 +31,7 @@ fn drawn(rate: Femtojoules, load: Kilohertz) -> Picowatts
 }
 
 impl Top<'_> {
-    ghost use Rattle.planner.specs.Filled.{TopFilled};
+    ghost use Rattle.planner.specs.Members.{TopFilled};
 
     // What the member at a position is charged, with what the rest costs.
     fn with_member(&self, at: usize, rest: Picowatts) -> Picowatts

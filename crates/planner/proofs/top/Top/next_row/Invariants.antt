@@ -1,7 +1,7 @@
 -- The loop of `next_row`: the rows below are as they were, and the figures of fewer than n islands stand in the next. Assumes nothing.
 use Rattle.std.proofs.Common.{ℕ, suc, ◌≡◌, ◌<◌}
 use Rattle.planner.specs.Rows.{row_at}
-use Rattle.planner.specs.Filled.{figure, TopFilled}
+use Rattle.planner.specs.Members.{figure, TopFilled}
 use Rattle.planner.proofs.top.Top.next_row.Given as goal
 
 abbrev pub invariant-loop-n : goal.invariant-loop-n
