@@ -1,17 +1,16 @@
 -- Every sum of the recurrence fits in 64 bits, for a run within the board.
---     still_sized    a table that keeps its length stays a whole square
---     below_member   what lies below a member ends within the board
---     row_fits       what a row of the recurrence has fits in 64 bits
+--     RunFits        a run of m + 1 islands from i on, with a low charge ρ, over a table that has low bests of shorter runs
 --     run_most       the total of a run is no more than its islands may draw
---     run_fits       a run of the writer is one that the rows can be filled for
+--     cost_fits      and fits in 64 bits
+--     gaps_fit       over low rows, whatever a gap gets costs less than 2 ^ 64
+--     figure_fits    what the recurrence has for a top island's members fits in 64 bits
 --     filled_low     rows that are those of the recurrence are low enough to be added up
---     gaps_fit       over such rows, whatever a gap gets costs less than 2 ^ 64
+--     row_gaps_fit   so whatever a gap below a member gets costs less than 2 ^ 64
 -- Assumes nothing.
 use Prim.Native.Nat.{ℕ, suc, ◌+◌, ◌-◌, ◌*◌, ◌≤◌, ◌<◌, ◌^◌, zero-le}
-use mathlib.Core.Path.{◌≡◌, ◌∙◌}
 use mathlib.Core.Bool.{Bool, true, false, cond}
 use mathlib.Core.List.{List}
-use native.Mathlib.Nat.{le_refl, le_trans, sub-le, lt_of_le_of_lt, mul-le-mul, mul-le-mul_right}
+use native.Mathlib.Nat.{le_refl, le_trans, lt_of_le_of_lt, mul-le-mul, mul-le-mul_right}
 use native.Mathlib.Omega.{arith}
 use lib.Dec.{ltb}
 use lib.ListN.{length, get_or}
@@ -19,81 +18,42 @@ use Rattle.model.specs.Limits.{most_frequency, most_cores, most_islands}
 use Rattle.optimum.specs.Best.{itself, top_load, fill, gap_cost}
 use Rattle.optimum.proofs.Recurrence.{islands_parted}
 use Rattle.optimum.proofs.BestBound.{Capped, fill_most}
+use Rattle.planner.specs.declared.charged.Positions.{Positions}
+use Rattle.planner.specs.declared.bests.Bests.{Bests}
+use Rattle.planner.specs.declared.rows.Rows.{Rows}
+use Rattle.planner.specs.declared.top.Top.{Top}
 use Rattle.planner.specs.Square.{best_at, run_cost}
-use Rattle.planner.specs.Rows.{row_at, Filling}
-use Rattle.planner.specs.Bounds.{most_charge, most_member, most_own, most_draw, AllBelow, Sized, Cheap, Bounded, RunFits}
+use Rattle.planner.specs.Members.{gap_costs, figure, TopFilled}
+use Rattle.planner.specs.Bounds.{most_charge, most_member, most_draw, AllBelow, Bounded}
 use Rattle.planner.specs.Written.{Low}
 
-pub still_sized : (Q : ℕ) (ws before bests : List ℕ) → length bests ≡ length before → Sized Q ws before → Sized Q ws bests
-still_sized Q ws before bests same sized =
-    record {
-      some_core = sized.some_core;
-      few_cores = sized.few_cores;
-      few_places = sized.few_places;
-      square = same ∙ sized.square;
-      light = sized.light;
-    }
+record RunFits (p : Positions) (totals : List ℕ) (ρ i m : ℕ) : Type 0 where
+  pub few : m < most_islands
+  pub bounded : Bounded p.cores p.loads.now totals m
+  pub within : i + suc m * p.cores ≤ length p.loads.now
+  pub low_rate : ρ ≤ most_charge
 
-module _ (Q ρ i m : ℕ) (ws bests : List ℕ) (fits : RunFits Q ρ i m ws bests) where
+module _ (p : Positions) (totals : List ℕ) (ρ i m : ℕ) (fits : RunFits p totals ρ i m) where
   -- what a member is charged
-  member_most : (k : ℕ) → ρ * get_or ws k 0 ≤ most_member
-  member_most k = mul-le-mul {n₂ = most_charge} {m₂ = most_frequency} fits.charge (fits.sized.light k)
+  member_most : (k : ℕ) → ρ * get_or p.loads.now k 0 ≤ most_member
+  member_most k = mul-le-mul {n₂ = most_charge} {m₂ = most_frequency} fits.low_rate (p.light k)
 
-  pub below_member : (r n : ℕ) → r < Q → n ≤ m → i + (n * Q + suc r) ≤ length ws
-  below_member r n lower few = omega (arith, mul-le-mul_right Q few, fits.within)
+  -- what lies below a member ends within the board
+  below_member : (r n : ℕ) → r < p.cores → n ≤ m → i + (n * p.cores + suc r) ≤ length p.loads.now
+  below_member r n lower few = omega (arith, mul-le-mul_right p.cores few, fits.within)
 
-  capped : (r n : ℕ) → r < Q → n ≤ m → Capped most_draw Q (best_at Q bests) n (i + (n * Q + r))
+  capped : (r n : ℕ) → r < p.cores → n ≤ m → Capped most_draw p.cores (best_at p.cores totals) n (i + (n * p.cores + r))
   capped r n lower few j g bound inside =
       fits.bounded j g (le_trans bound few) (omega (arith, below_member r n lower few))
 
   -- what a row of the recurrence has
-  row_most : (r n : ℕ) → r < Q → n ≤ m → fill Q ws (best_at Q bests) ρ i r n ≤ n * most_draw + suc r * most_member
+  row_most :
+      (r n : ℕ)
+      → r < p.cores
+      → n ≤ m
+      → fill p.cores p.loads.now (best_at p.cores totals) ρ i r n ≤ n * most_draw + suc r * most_member
   row_most r n lower few =
-      fill_most most_draw most_member Q ws (best_at Q bests) ρ i member_most r n (capped r n lower few)
-
-  pub row_fits : (r n : ℕ) → r < Q → n ≤ m → fill Q ws (best_at Q bests) ρ i r n < 2 ^ 64
-  row_fits r n lower few =
-      lt_of_le_of_lt (row_most r n lower few) (omega (arith, fits.few, fits.sized.few_cores))
-
-  pub filled_low : (rows : List ℕ) (r : ℕ) → r < Q → Filling Q ws (best_at Q bests) ρ i rows r m → Low rows r m
-  filled_low rows r lower filling s n low few = omega (arith, filling s n low few, row_most s n (omega arith) few)
-
-pub run_fits :
-    (Q : ℕ) (ws bests rates : List ℕ) (i v k : ℕ)
-    → Sized Q ws bests
-    → Cheap ws rates
-    → Bounded Q ws bests v
-    → 0 < v
-    → v ≤ most_islands
-    → i + v * Q ≤ length ws
-    → RunFits Q (get_or rates k 0) i (v - 1) ws bests
-run_fits Q ws bests rates i v k sized cheap bounded some few inside =
-    let last : i + suc (v - 1) * Q ≤ length ws = omega (arith, islands_parted v 1 Q some) in
-    record {
-      sized = sized;
-      charge = cheap.cheap k;
-      few = omega arith;
-      within = last;
-      bounded = λ j g h. bounded j g (le_trans h (sub-le v 1));
-    }
-
-pub gaps_fit :
-    (Q : ℕ) (ws bests rows : List ℕ) (i r m n : ℕ)
-    → Bounded Q ws bests m
-    → Low rows r m
-    → n ≤ m
-    → m < most_islands
-    → r < most_cores
-    → i + (n * Q + suc r) ≤ length ws
-    → AllBelow (2 ^ 64) n (gap_cost Q (best_at Q bests) (row_at rows r) i r n)
-unfolding gap_cost
-gaps_fit Q ws bests rows i r m n bounded low fewer few members within g h =
-    let parts = islands_parted n g Q h in
-    omega (
-      arith,
-      bounded (i + ((n - g) * Q + suc r)) g (omega arith) (omega (arith, parts)),
-      low r (n - g) (le_refl r) (omega arith),
-    )
+      fill_most most_draw most_member p.cores p.loads.now (best_at p.cores totals) ρ i member_most r n (capped r n lower few)
 
 -- "An inactive island draws nothing": never more than an active one by itself
 itself_most : (own t : ℕ) → itself own t ≤ own
@@ -105,16 +65,85 @@ itself_most own t = go (ltb 0 t)
     go false = zero-le
 
 pub run_most :
-    (Q own i m : ℕ) (ws rates bests : List ℕ)
-    → RunFits Q (get_or rates (i + (m * Q + (Q - 1))) 0) i m ws bests
-    → own ≤ most_own
-    → run_cost Q own ws rates (best_at Q bests) i m ≤ suc m * most_draw
+    (p : Positions) (totals : List ℕ) (i m : ℕ)
+    → m < most_islands
+    → Bounded p.cores p.loads.now totals m
+    → i + suc m * p.cores ≤ length p.loads.now
+    → run_cost p.cores p.own.0 p.loads.now p.rates.now (best_at p.cores totals) i m ≤ suc m * most_draw
 unfolding run_cost
-run_most Q own i m ws rates bests fits little =
+run_most p totals i m few bounded within =
+    let last = i + (m * p.cores + (p.cores - 1)) in
+    let fits : RunFits p totals (get_or p.rates.now last 0) i m =
+    record { few = few; bounded = bounded; within = within; low_rate = p.cheap.cheap last } in
     omega (
       arith,
-      itself_most own (top_load Q ws i m),
-      row_most Q (get_or rates (i + (m * Q + (Q - 1))) 0) i m ws bests fits (Q - 1) m (omega (arith, fits.sized.some_core)) (le_refl m),
-      fits.sized.few_cores,
-      fits.sized.some_core,
+      itself_most p.own.0 (top_load p.cores p.loads.now i m),
+      row_most p totals (get_or p.rates.now last 0) i m fits (p.cores - 1) m (omega (arith, p.some_core)) (le_refl m),
+      p.own_low,
+      p.few_cores,
+      p.some_core,
     )
+
+pub cost_fits :
+    (bests : Bests) (i m : ℕ)
+    → m < most_islands
+    → m ≤ bests.islands
+    → i + suc m * bests.positions.cores ≤ length bests.positions.loads.now
+    → run_cost bests.positions.cores bests.positions.own.0 bests.positions.loads.now bests.positions.rates.now
+    (best_at bests.positions.cores bests.totals.now) i m
+    < 2 ^ 64
+cost_fits bests i m few known within =
+    let most =
+    run_most bests.positions bests.totals.now i m few (λ j g h. bests.bounded j g (le_trans h known)) within in
+    omega (arith, most, few)
+
+pub gaps_fit :
+    (bests : Bests) (rows : Rows) (i r m n : ℕ)
+    → Low rows.figures r m
+    → n ≤ m
+    → m ≤ bests.islands
+    → m < most_islands
+    → r < most_cores
+    → i + (n * bests.positions.cores + suc r) ≤ length bests.positions.loads.now
+    → AllBelow (2 ^ 64) n (gap_costs bests rows i r n)
+unfolding gap_cost
+gaps_fit bests rows i r m n low fewer known few members within g h =
+    let parts = islands_parted n g bests.positions.cores h in
+    omega (
+      arith,
+      bests.bounded (i + ((n - g) * bests.positions.cores + suc r)) g (omega arith) (omega (arith, parts)),
+      low r (n - g) (le_refl r) (omega arith),
+    )
+
+module _ (top : Top) where
+  abbrev p : Positions
+  p = top.bests.positions
+
+  top_fits : RunFits p top.bests.totals.now top.rate.0 top.start top.inner
+  top_fits =
+      record {
+        few = top.few;
+        bounded = λ i g few. top.bests.bounded i g (le_trans few top.known);
+        within = top.within;
+        low_rate = top.low_rate;
+      }
+
+  figure_most : (r n : ℕ) → r < p.cores → n ≤ top.inner → figure top r n ≤ n * most_draw + suc r * most_member
+  figure_most = row_most p top.bests.totals.now top.rate.0 top.start top.inner top_fits
+
+  pub figure_fits : (r n : ℕ) → r < p.cores → n ≤ top.inner → figure top r n < 2 ^ 64
+  figure_fits r n lower few = lt_of_le_of_lt (figure_most r n lower few) (omega (arith, top.few, p.few_cores))
+
+  pub filled_low : (rows : Rows) (r : ℕ) → r < p.cores → TopFilled top rows r → Low rows.figures r top.inner
+  filled_low rows r lower filled s n low few = omega (arith, filled s n low few, figure_most s n (omega arith) few)
+
+  pub row_gaps_fit :
+      (rows : Rows) (r n : ℕ)
+      → TopFilled top rows r
+      → suc r < p.cores
+      → n ≤ top.inner
+      → AllBelow (2 ^ 64) n (gap_costs top.bests rows top.start r n)
+  row_gaps_fit rows r n filled lower few =
+      gaps_fit top.bests rows top.start r top.inner n (filled_low rows r (omega arith) filled) few top.known top.few
+      (omega (arith, p.few_cores))
+      (omega (arith, below_member p top.bests.totals.now top.rate.0 top.start top.inner top_fits (suc r) n lower few))

@@ -8,11 +8,12 @@
 --     grown_bounded      and when it has grown
 --     grown_filled       a table that has the best of every shorter run then has those of one island more
 -- Assumes nothing.
-use Prim.Native.Nat.{ℕ, zero, suc, ◌+◌, ◌-◌, ◌*◌, ◌≤◌, ◌<◌, zero-le}
-use mathlib.Core.Path.{◌≡◌, refl, sym, ap, ◌∙◌, subst}
+use Prim.Native.Nat.{ℕ, zero, suc, ◌+◌, ◌-◌, ◌*◌, ◌%◌, ◌≤◌, ◌<◌, zero-le}
+use mathlib.Core.Path.{◌≡◌, sym, ap, ◌∙◌, subst}
 use mathlib.Core.List.{List}
-use native.Mathlib.Nat.{not-suc-le-zero, le_trans}
+use native.Mathlib.Nat.{not-suc-le-zero, le_trans, mod-eq_of_lt}
 use native.Mathlib.Decide.{dec_lt, ℕ_discrete}
+use native.Mathlib.Numerals.{add-one}
 use native.Mathlib.Omega.{arith}
 use lib.ListN.{length, get_or, set}
 use Rattle.model.specs.Limits.{most_islands, most_places}
@@ -20,7 +21,9 @@ use Rattle.optimum.specs.Best.{itself, load_at, top_load, fill, best}
 use Rattle.optimum.proofs.Recurrence.{Agree, fill_same, best_none, best_is}
 use Rattle.planner.specs.Positions.{Charged}
 use Rattle.planner.specs.Square.{place, best_at, run_cost, Grown, Filled, Found}
-use Rattle.planner.specs.Bounds.{most_own, most_draw, Sized, Cheap, Bounded, RunFits}
+use Rattle.planner.specs.declared.charged.Positions.{Positions}
+use Rattle.planner.specs.Square.{square_size}
+use Rattle.planner.specs.Bounds.{most_draw, Bounded}
 use Rattle.planner.proofs.Square.{best_stored, best_others}
 use Rattle.planner.proofs.Fitting.{run_most}
 
@@ -49,104 +52,116 @@ unfolding best_at
 nothing_filled Q own ws rates bests rate charged i zero few inside = sym (best_none Q own rate ws i)
 nothing_filled Q own ws rates bests rate charged i (suc g) few inside = absurd (not-suc-le-zero few)
 
-module _ (Q own : ℕ) (ws rates before : List ℕ) (m : ℕ) where
+module _ (p : Positions) (before : List ℕ) (m : ℕ) where
+  abbrev Q : ℕ
+  Q = p.cores
+
+  abbrev ws : List ℕ
+  ws = p.loads.now
+
+  -- the total of a run of m + 1 islands
+  abbrev total : ℕ → ℕ
+  total i = run_cost Q p.own.0 ws p.rates.now (best_at Q before) i m
+
   pub record Growing (now : List ℕ) (start : ℕ) : Type 0 where
     pub kept : (i g : ℕ) → g ≤ m → i + g * Q ≤ length ws → best_at Q now i g ≡ best_at Q before i g
-    pub added :
-        (i : ℕ)
-        → i < start
-        → i + suc m * Q ≤ length ws
-        → best_at Q now i (suc m) ≡ run_cost Q own ws rates (best_at Q before) i m
-
-  pub growing_none : Growing before 0
-  growing_none = record { kept = λ i g few inside. refl; added = λ i none. absurd (not-suc-le-zero none) }
+    pub added : (i : ℕ) → i < start → i + suc m * Q ≤ length ws → best_at Q now i (suc m) ≡ total i
 
   pub growing_more :
       (now : List ℕ) (start at cost : ℕ)
-      → Sized Q ws now
+      → length now ≡ square_size
       → start + suc m * Q ≤ length ws
       → at ≡ place Q start (suc m)
-      → cost ≡ run_cost Q own ws rates (best_at Q now) start m
+      → cost ≡ run_cost Q p.own.0 ws p.rates.now (best_at Q now) start m
       → Growing now start
       → Growing (set now at cost) (start + 1)
-  growing_more now start at cost sized within here is growing =
-      subst (λ (p : ℕ). Growing (set now p cost) (start + 1)) (sym here)
+  growing_more now start at cost square within here is growing =
+      subst (λ (n : ℕ). Growing (set now n cost) (start + 1)) (sym here)
       (record {
         kept = λ i g few inside. other i g inside (λ same. omega (arith, same.1)) ∙ growing.kept i g few inside;
         added = λ i bound inside.
             elim (ℕ_discrete i start) [
               | yes e ↦
                   ap (λ (j : ℕ). best_at Q (set now (place Q start (suc m)) cost) j (suc m)) e
-                  ∙ best_stored Q now start m cost sized.some_core sized.square room
+                  ∙ best_stored Q now start m cost p.some_core square room
                   ∙ is
-                  ∙ cost_same Q own ws rates (best_at Q now) (best_at Q before) start m
-                  (λ j g few ends. growing.kept j g few (omega (arith, last_inside Q ws start m sized.some_core within)))
-                  ∙ ap (λ (j : ℕ). run_cost Q own ws rates (best_at Q before) j m) (sym e)
+                  ∙ cost_same Q p.own.0 ws p.rates.now (best_at Q now) (best_at Q before) start m
+                  (λ j g few ends. growing.kept j g few (omega (arith, last_inside Q ws start m p.some_core within)))
+                  ∙ ap total (sym e)
               | no differs ↦ other i (suc m) inside (λ same. differs same.0) ∙ growing.added i (omega arith) inside
             ];
       })
     where
       room : start + suc m * Q ≤ most_places
-      room = le_trans within sized.few_places
+      room = le_trans within p.few_places
 
       other :
           (i g : ℕ)
           → i + g * Q ≤ length ws
           → ¬ ((i ≡ start) × (g ≡ suc m))
           → best_at Q (set now (place Q start (suc m)) cost) i g ≡ best_at Q now i g
-      other i g inside = best_others Q now start m cost sized.some_core sized.square room i g (le_trans inside sized.few_places)
+      other i g inside = best_others Q now start m cost p.some_core square room i g (le_trans inside p.few_places)
 
-  pub growing_all : (now : List ℕ) (start : ℕ) → length ws < start + suc m * Q → Growing now start → Grown Q own ws rates before now m
-  growing_all now start ended growing =
-      record { kept = growing.kept; added = λ i inside. growing.added i (omega arith) inside }
-
-  pub growing_bounded : (now : List ℕ) (start : ℕ) → Growing now start → Bounded Q ws before m → Bounded Q ws now m
-  growing_bounded now start growing bounded i g few inside =
-      subst (λ (c : ℕ). c ≤ g * most_draw) (sym (growing.kept i g few inside)) (bounded i g few inside)
-
-  module _ (after : List ℕ) (grown : Grown Q own ws rates before after m) where
-    pub grown_bounded :
-        Sized Q ws before
-        → Cheap ws rates
-        → own ≤ most_own
-        → m < most_islands
-        → Bounded Q ws before m
-        → Bounded Q ws after (suc m)
-    grown_bounded sized cheap little few bounded i g bound inside =
+  module _ (after : List ℕ) (grown : Grown Q p.own.0 ws p.rates.now before after m) where
+    pub grown_bounded : m < most_islands → Bounded Q ws before m → Bounded Q ws after (suc m)
+    grown_bounded few bounded i g bound inside =
         elim (dec_lt m g) [
           | yes above ↦
               let all : g ≡ suc m = omega arith in
+              let within = subst (λ (n : ℕ). i + n * Q ≤ length ws) all inside in
               subst (λ (n : ℕ). best_at Q after i n ≤ n * most_draw) (sym all)
-              (subst (λ (c : ℕ). c ≤ suc m * most_draw)
-              (sym (grown.added i (subst (λ (n : ℕ). i + n * Q ≤ length ws) all inside)))
-              (drawn (subst (λ (n : ℕ). i + n * Q ≤ length ws) all inside)))
+              (subst (λ (c : ℕ). c ≤ suc m * most_draw) (sym (grown.added i within)) (drawn within))
           | no below ↦
               subst (λ (c : ℕ). c ≤ g * most_draw) (sym (grown.kept i g (omega arith) inside)) (bounded i g (omega arith) inside)
         ]
       where
-        drawn : i + suc m * Q ≤ length ws → run_cost Q own ws rates (best_at Q before) i m ≤ suc m * most_draw
-        drawn within =
-            let fits : RunFits Q (get_or rates (i + (m * Q + (Q - 1))) 0) i m ws before =
-            record { sized = sized; charge = cheap.cheap (i + (m * Q + (Q - 1))); few = few; within = within; bounded = bounded } in
-            run_most Q own i m ws rates before fits little
+        drawn : i + suc m * Q ≤ length ws → total i ≤ suc m * most_draw
+        drawn within = run_most p before i m few bounded within
 
     pub grown_filled :
-        (rate : ℕ → ℕ) → 0 < Q → Charged rate ws rates → Filled Q own rate ws before m → Filled Q own rate ws after (suc m)
+        (rate : ℕ → ℕ) → Charged rate ws p.rates.now → Filled Q p.own.0 rate ws before m → Filled Q p.own.0 rate ws after (suc m)
     unfolding run_cost top_load load_at
-    grown_filled rate pos charged filled i g bound inside =
+    grown_filled rate charged filled i g bound inside =
         elim (dec_lt m g) [
           | yes above ↦
               let all : g ≡ suc m = omega arith in
-              subst (λ (n : ℕ). best_at Q after i n ≡ best Q own rate ws i n) (sym all)
+              subst (λ (n : ℕ). best_at Q after i n ≡ best Q p.own.0 rate ws i n) (sym all)
               (one (subst (λ (n : ℕ). i + n * Q ≤ length ws) all inside))
           | no below ↦ grown.kept i g (omega arith) inside ∙ filled i g (omega arith) inside
         ]
       where
-        one : i + suc m * Q ≤ length ws → best_at Q after i (suc m) ≡ best Q own rate ws i (suc m)
+        one : i + suc m * Q ≤ length ws → best_at Q after i (suc m) ≡ best Q p.own.0 rate ws i (suc m)
         one within =
             grown.added i within
-            ∙ cost_same Q own ws rates (best_at Q before) (best Q own rate ws) i m
-            (λ j k few ends. filled j k few (omega (arith, last_inside Q ws i m pos within)))
-            ∙ ap (λ (ρ : ℕ). itself own (top_load Q ws i m) + fill Q ws (best Q own rate ws) ρ i (Q - 1) m)
-            (charged (i + (m * Q + (Q - 1))) (last_inside Q ws i m pos within))
-            ∙ sym (best_is Q own rate ws i m)
+            ∙ cost_same Q p.own.0 ws p.rates.now (best_at Q before) (best Q p.own.0 rate ws) i m
+            (λ j k few ends. filled j k few (omega (arith, last_inside Q ws i m p.some_core within)))
+            ∙ ap (λ (ρ : ℕ). itself p.own.0 (top_load Q ws i m) + fill Q ws (best Q p.own.0 rate ws) ρ i (Q - 1) m)
+            (charged (i + (m * Q + (Q - 1))) (last_inside Q ws i m p.some_core within))
+            ∙ sym (best_is Q p.own.0 rate ws i m)
+
+-- a table that has the best of each run of at most m islands
+pub record Known (p : Positions) (totals : List ℕ) (m : ℕ) : Type 0 where
+  pub bounded : Bounded p.cores p.loads.now totals m
+  pub found : Found p.cores p.own.0 p.loads.now p.rates.now totals m
+
+pub known_none : (p : Positions) (totals : List ℕ) → Known p totals 0
+known_none p totals =
+    record {
+      bounded = nothing_bounded p.cores p.loads.now totals;
+      found = nothing_filled p.cores p.own.0 p.loads.now p.rates.now totals;
+    }
+
+pub known_more :
+    (p : Positions) (before after : List ℕ) (m : ℕ)
+    → m < most_islands
+    → Known p before m
+    → Grown p.cores p.own.0 p.loads.now p.rates.now before after (m % most_islands)
+    → Known p after (m + 1)
+known_more p before after m few known added =
+    let remainder : m % most_islands ≡ m = mod-eq_of_lt few in
+    let grown = subst (λ (n : ℕ). Grown p.cores p.own.0 p.loads.now p.rates.now before after n) remainder added in
+    rw add-one
+    (record {
+      bounded = grown_bounded p before m after grown few known.bounded;
+      found = λ rate charged. grown_filled p before m after grown rate charged (known.found rate charged);
+    })

@@ -1,6 +1,6 @@
 -- From a job that nothing refuses to what the search asks.
 --     padded_carried    some level is fast enough for each load at the positions
---     whole             there is a load at each of them
+--     whole, few        there is a load at each of them, and there are few enough
 --     light             and each is within the range of frequencies
 --     below             every level that is looked up is one of the table
 --     priced            the costs of these levels are what islands are charged, and none is too high
@@ -59,6 +59,9 @@ module _ (job : Job) (passed : Passed job) where
   module _ (ws : List ℕ) (laid_out : ws ≡ padded job) where
     pub whole : length ws ≡ job.islands * job.cores
     whole = ap (λ (l : List ℕ). length l) laid_out ∙ padded_length job passed.few
+
+    pub few : length ws ≤ most_places
+    few = le_trans (le_of_eq whole) few_places
 
     carried : (k : ℕ) → FastEnough job.table (get_or ws k 0)
     carried k = subst (λ (l : List ℕ). FastEnough job.table (get_or l k 0)) (sym laid_out) (padded_carried k)

@@ -2,7 +2,7 @@ pub mod Answers
 pub mod Charges
 pub mod LevelBytes
 pub mod Square
-pub mod Rows
+pub mod Figures
 pub mod Fitting
 pub mod Growing
 pub mod Stores

@@ -1,44 +1,21 @@
 -- From the table of bests to the whole board.
---     board_places    a board has at most 64 positions
---     board_sized     so its table is of the right size
 --     board_solved    the best of the whole board, and the plan that is written over all its positions, are those of the recurrence
 -- Assumes nothing.
-use Prim.Native.Nat.{ℕ, ◌*◌, ◌≤◌, ◌<◌}
+use Prim.Native.Nat.{ℕ, ◌*◌}
 use mathlib.Core.Path.{◌≡◌, sym, ◌∙◌}
 use mathlib.Core.List.{List, append-nil}
-use native.Mathlib.Nat.{le_refl, le_of_eq, le_trans, mul-le-mul, zero-add}
+use native.Mathlib.Nat.{le_refl, le_of_eq, zero-add}
 use native.Mathlib.Omega.{arith}
 use lib.ListN.{length, drop_of_length-le}
 use lib.Seq.{sets, sets-eq}
-use Rattle.model.specs.Limits.{most_islands, most_cores, most_places}
-use Rattle.model.specs.Refusals.{FitSizes}
 use Rattle.optimum.specs.Chosen.{plan_by}
 use Rattle.optimum.proofs.Shapes.{run_length}
 use Rattle.optimum.proofs.ChosenRun.{by_run}
 use Rattle.optimum.proofs.ChosenSame.{plan_of_bests}
-use Rattle.planner.specs.Square.{square_size, best_at, Found}
-use Rattle.planner.specs.Bounds.{Light, Sized}
+use Rattle.planner.specs.declared.charged.Positions.{Positions}
+use Rattle.planner.specs.Square.{best_at, Found}
 use Rattle.planner.specs.Written.{RunWritten}
 use Rattle.planner.specs.Settled.{Solved}
-
-pub board_places : (v Q : ℕ) → FitSizes v Q → v * Q ≤ most_places
-board_places v Q sizes = mul-le-mul {n₂ = most_islands} {m₂ = most_cores} sizes.few_islands sizes.few_cores
-
-pub board_sized :
-    (v Q : ℕ) (ws bests : List ℕ)
-    → FitSizes v Q
-    → length ws ≡ v * Q
-    → length bests ≡ square_size
-    → Light ws
-    → Sized Q ws bests
-board_sized v Q ws bests sizes places square light =
-    record {
-      some_core = sizes.some_core;
-      few_cores = sizes.few_cores;
-      few_places = le_trans (le_of_eq places) (board_places v Q sizes);
-      square = square;
-      light = light;
-    }
 
 -- a list that is as long as the one it is stored over
 sets_all : (before xs : List ℕ) → length xs ≡ length before → sets before 0 xs ≡ xs
@@ -46,20 +23,21 @@ sets_all before xs as_long =
     sets-eq xs before 0 (omega arith) ∙ rw (zero-add, drop_of_length-le before (le_of_eq (sym as_long))) (append-nil xs)
 
 pub board_solved :
-    (Q own v : ℕ) (ws rates bests before after : List ℕ) (total : ℕ)
-    → 0 < Q
-    → length ws ≡ v * Q
-    → length before ≡ v * Q
-    → Found Q own ws rates bests v
-    → RunWritten Q ws rates bests before after 0 0 v
-    → total ≡ best_at Q bests 0 v
-    → Solved Q own ws rates v total after
-board_solved Q own v ws rates bests before after total some places room found written least rate charged =
-    let plan = plan_by Q ws (best_at Q bests) rate 0 0 v in
-    let whole : length plan ≡ v * Q = run_length Q 0 v plan (by_run Q ws (best_at Q bests) rate some 0 0 v) in
+    (p : Positions) (v : ℕ) (totals before after : List ℕ) (total : ℕ)
+    → length p.loads.now ≡ v * p.cores
+    → length before ≡ length p.loads.now
+    → Found p.cores p.own.0 p.loads.now p.rates.now totals v
+    → RunWritten p.cores p.loads.now p.rates.now totals before after 0 0 v
+    → total ≡ best_at p.cores totals 0 v
+    → Solved p.cores p.own.0 p.loads.now p.rates.now v total after
+board_solved p v totals before after total places room found written least rate charged =
+    let Q = p.cores in
+    let ws = p.loads.now in
+    let plan = plan_by Q ws (best_at Q totals) rate 0 0 v in
+    let whole : length plan ≡ v * Q = run_length Q 0 v plan (by_run Q ws (best_at Q totals) rate p.some_core 0 0 v) in
     let same = found rate charged in (
       least ∙ same 0 v (le_refl v) (omega arith),
       written rate charged
           ∙ sets_all before plan (omega arith)
-          ∙ plan_of_bests Q own rate ws (best_at Q bests) v 0 0 v (le_refl v) (λ j g few inside. same j g few (omega arith)),
+          ∙ plan_of_bests Q p.own.0 rate ws (best_at Q totals) v 0 0 v (le_refl v) (λ j g few inside. same j g few (omega arith)),
     )

@@ -1,17 +1,15 @@
 -- The place of a run in the table of bests.
 --     place_within    the place of a run within the board is one of the square's
 --     place_one       no two runs share a place
---     best_none       what the table has for a run of no islands
---     best_some       what the table has for a run of some islands
 --     best_stored     a figure that is stored for a run is what the table then has for it
 --     best_others     and it has for every other run what it had
 -- Nothing here but `place_within` and `place_one` looks into `place`. Assumes nothing.
 use Prim.Native.Nat.{ℕ, zero, suc, ◌+◌, ◌*◌, ◌≤◌, ◌<◌}
 use mathlib.Core.Path.{◌≡◌, refl, sym, subst}
 use mathlib.Core.List.{List}
-use native.Mathlib.Nat.{eq_of_mul-eq-mul_right, mul-pos, not-suc-le-zero}
+use native.Mathlib.Nat.{eq_of_mul-eq-mul_right, mul-pos}
 use native.Mathlib.Omega.{arith}
-use lib.ListN.{length, get_or, set}
+use lib.ListN.{length, set}
 use lib.Seq.{get_or-set_same, get_or-set_other}
 use Rattle.model.specs.Limits.{most_places}
 use Rattle.planner.specs.Square.{square_size, place, best_at}
@@ -36,16 +34,6 @@ place_one Q i v i' v' pos some some' within within' same =
     let p' : 0 < v' * Q = mul-pos some' pos in
     let first : i ≡ i' = omega arith in
     (first, eq_of_mul-eq-mul_right Q pos v v' (omega arith))
-
-pub best_none : (Q : ℕ) (bests : List ℕ) (i v : ℕ) → v < 1 → best_at Q bests i v ≡ 0
-unfolding best_at
-best_none Q bests i zero none = refl
-best_none Q bests i (suc m) none = absurd (omega arith)
-
-pub best_some : (Q : ℕ) (bests : List ℕ) (i v : ℕ) → 0 < v → best_at Q bests i v ≡ get_or bests (place Q i v) 0
-unfolding best_at
-best_some Q bests i zero some = absurd (not-suc-le-zero some)
-best_some Q bests i (suc m) some = refl
 
 module _
     (Q : ℕ) (bests : List ℕ) (i m c : ℕ) (pos : 0 < Q) (square : length bests ≡ square_size)

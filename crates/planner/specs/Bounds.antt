@@ -5,14 +5,12 @@
 --     most_draw      what an island draws is at most this: its own power and a member on every core
 --     AllBelow       each of m + 1 figures is below a bound
 --     Light          every load is within the highest frequency that a table may have
---     Sized          some cores and no more than there may be, no more positions than a board may have, loads in range, a whole square
 --     Cheap          a charge for every position, none too high
 --     Bounded        what the table has for a run of at most v islands is no more than so many islands may draw
---     RunFits        a run of m + 1 islands from i on, over these and with a charge ρ
 -- Assumes nothing.
-use Rattle.std.specs.Prelude.{ℕ, suc, ◌+◌, ◌*◌, ◌/◌, ◌≤◌, ◌<◌, ◌≡◌, List, length, get_or}
-use Rattle.model.specs.Limits.{million, least_frequency, most_frequency, most_power, most_island_power, most_cores, most_islands, most_places}
-use Rattle.planner.specs.Square.{square_size, best_at}
+use Rattle.std.specs.Prelude.{ℕ, ◌+◌, ◌*◌, ◌/◌, ◌≤◌, ◌<◌, ◌≡◌, List, length, get_or}
+use Rattle.model.specs.Limits.{million, least_frequency, most_frequency, most_power, most_island_power, most_cores}
+use Rattle.planner.specs.Square.{best_at}
 
 abbrev pub most_charge : ℕ
 most_charge = most_power * million / least_frequency
@@ -32,23 +30,9 @@ AllBelow bound m h = (g : ℕ) → g ≤ m → h g < bound
 abbrev pub Light : List ℕ → Type 0
 Light ws = (k : ℕ) → get_or ws k 0 ≤ most_frequency
 
-pub record Sized (Q : ℕ) (ws bests : List ℕ) : Type 0 where
-  pub some_core : 0 < Q
-  pub few_cores : Q ≤ most_cores
-  pub few_places : length ws ≤ most_places
-  pub square : length bests ≡ square_size
-  pub light : Light ws
-
 pub record Cheap (ws rates : List ℕ) : Type 0 where
   pub same_length : length rates ≡ length ws
   pub cheap : (k : ℕ) → get_or rates k 0 ≤ most_charge
 
 abbrev pub Bounded : (Q : ℕ) (ws bests : List ℕ) (v : ℕ) → Type 0
 Bounded Q ws bests v = (i g : ℕ) → g ≤ v → i + g * Q ≤ length ws → best_at Q bests i g ≤ g * most_draw
-
-pub record RunFits (Q ρ i m : ℕ) (ws bests : List ℕ) : Type 0 where
-  pub sized : Sized Q ws bests
-  pub charge : ρ ≤ most_charge
-  pub few : m < most_islands
-  pub within : i + suc m * Q ≤ length ws
-  pub bounded : Bounded Q ws bests m

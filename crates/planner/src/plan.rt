@@ -2,57 +2,51 @@
 // more. `plan` asks nothing; the functions before it ask for lists whose lengths go together and for parts of the plan, and every caller
 // shows it.
 ghost use Rattle.std.specs.Prelude.{◌≡◌, ◌++◌, ◌*◌, ◌≤◌, length, drop};
-ghost use Rattle.model.specs.Limits.{most_levels};
+ghost use Rattle.model.specs.Limits.{most_islands, most_levels};
 ghost use Rattle.model.specs.Plan.{Named};
 ghost use Rattle.model.specs.Power.{levels as level_bytes};
-ghost use Rattle.model.specs.Refusals.{FitSizes, RoomEnough, number_of};
+ghost use Rattle.model.specs.Refusals.{RoomEnough, number_of};
 ghost use Rattle.model.specs.Answer.{total_of, Answered};
 ghost use Rattle.planner.specs.Given.{given};
 ghost use Rattle.planner.specs.Positions.{Looked, Below};
-ghost use Rattle.planner.specs.Bounds.{most_own, Light, Cheap};
 ghost use Rattle.planner.specs.Settled.{Solved, SettledJob, HandedBack};
 
+use super::bests::{Bests, SQUARE};
 use super::bytes::number_levels;
+use super::charged::Positions;
 use super::job::{Job, Sound};
 use super::positions::{charge_all, look_up};
 use super::refuse::judge_job;
-use super::search::{MOST_ISLANDS, SQUARE, best_at, search};
-use super::write::{Run, write_run};
+use super::rows::MOST_ISLANDS;
+use super::search::search;
+use super::write::Run;
 use board::Board;
 use model::Refusal;
 use units::Picowatts;
 
 // The least total of the board, and its full plan.
-fn solve(
-    positions: &[u64],
-    rates: &[u64],
-    islands: usize,
-    cores: usize,
-    own: Picowatts,
-    full: &mut [u8],
-) -> Picowatts
-    requires fit_sizes { FitSizes islands cores }
-    requires positions_len { (length positions.now ≡ islands * cores) × (length full.old ≡ islands * cores) }
-    requires light { Light positions.now }
-    requires cheap { Cheap positions.now rates.now }
-    requires own_le_most_own { own.0 ≤ most_own }
-    ensures { Solved cores own.0 positions.now rates.now islands result.0 full.new }
+fn solve(positions: &Positions, islands: usize, full: &mut [u8]) -> Picowatts
+    requires few_islands { islands ≤ most_islands }
+    requires whole_board { length positions.now.loads.now ≡ islands * positions.now.cores }
+    requires as_long { length full.old ≡ length positions.now.loads.now }
+    ensures { let p = positions.now in Solved p.cores p.own.0 p.loads.now p.rates.now islands result.0 full.new }
 {
-    let mut bests = [0u64; SQUARE];
-    search(&mut bests, positions, rates, cores, own, islands);
-    write_run(
+    let mut totals = [0u64; SQUARE];
+    search(&mut totals, positions, islands);
+    let bests = Bests {
+        positions: *positions,
+        totals: &totals,
+        islands,
+    };
+    bests.write_run(
         full,
-        &bests,
-        positions,
-        rates,
-        cores,
         Run {
             start: 0,
             islands,
             base: 0,
         },
     );
-    best_at(&bests, cores, 0, islands)
+    bests.at(0, islands)
 }
 
 // The same for a job that nothing refuses, with the level of each position: the loads are laid out behind the padding, and each is looked up
@@ -63,20 +57,19 @@ fn settle(sound: &Sound<'_>, steps: &mut [u8], full: &mut [u8]) -> Picowatts
     ensures { SettledJob (given sound.now.job) steps.new result.0 full.new }
 {
     let places = sound.places();
-    let mut positions = [0u64; Board::PLACES];
+    let mut loads = [0u64; Board::PLACES];
     let mut rates = [0u64; Board::PLACES];
-    positions[sound.padding()..places].copy_from_slice(sound.job.loads);
-    let positions = &positions[..places];
-    look_up(sound, positions, steps);
+    loads[sound.padding()..places].copy_from_slice(sound.job.loads);
+    let loads = &loads[..places];
+    look_up(sound, loads, steps);
     charge_all(sound, steps, &mut rates[..places]);
-    solve(
-        positions,
-        &rates[..places],
-        sound.islands(),
-        sound.cores(),
-        Picowatts::from(sound.job.island_power),
-        full,
-    )
+    let positions = Positions {
+        cores: sound.cores(),
+        own: Picowatts::from(sound.job.island_power),
+        loads,
+        rates: &rates[..places],
+    };
+    solve(&positions, sound.islands(), full)
 }
 
 // Writes both buffers, from the island and the level of each load.

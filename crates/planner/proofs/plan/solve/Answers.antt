@@ -4,5 +4,5 @@ use Rattle.planner.proofs.plan.solve.Goals as goal
 
 pub returns : goal.returns
 returns c =
-    board_solved _ _ _ _ c.args.rates.now _ _ _ _ c.requires.fit_sizes.some_core c.requires.positions_len.0 c.requires.positions_len.1
-    c.search.ensures.found c.write_run.ensures c.best_at.ensures
+    board_solved c.args.positions.now _ c.search.new.totals _ _ _ c.requires.whole_board c.requires.as_long c.search.ensures.found
+    c.write_run.ensures c.at.ensures

@@ -1,7 +1,7 @@
 -- A run of v islands counts 16 v, and the walker with m islands in the gaps below r + 1 members 16 m + r + 1: a run hands on one island
 -- less, and the walker a gap's run, or one member less. Assumes nothing.
 use Rattle.std.proofs.Common.{◌+◌, ◌*◌}
-use Rattle.planner.proofs.write.+write_gaps_write_run.Given as goal
+use Rattle.planner.proofs.bests.Bests.+write_gaps_write_run.Given as goal
 
 abbrev pub decreases-write_gaps : goal.decreases-write_gaps
 decreases-write_gaps l = l.below.islands * 16 + l.r + 1

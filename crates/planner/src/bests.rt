@@ -1,0 +1,47 @@
+// The table of bests: a square by first and last position, where the best total of each run stands.
+// A run begins at a position, counted from 0, and has whole islands; its last position holds the heaviest load of its top island.
+// Assumes nothing.
+ghost use Rattle.std.specs.Prelude.{◌≡◌, ◌+◌, ◌*◌, ◌≤◌, ◌<◌};
+ghost use Rattle.model.specs.Limits.{most_places};
+ghost use Rattle.planner.specs.Square.{place, best_at};
+ghost use Rattle.planner.specs.Bounds.{Bounded};
+
+use super::charged::Positions;
+use board::Board;
+use units::Picowatts;
+
+// The table has a place for every first and every last position.
+pub(crate) const SQUARE: usize = Board::PLACES * Board::PLACES;
+
+// The place of a run of some islands: by its first and its last position.
+#[tactic(auto, unfolding(crate::specs::Square::place))]
+pub(crate) fn place(cores: usize, start: usize, islands: usize) -> usize
+    requires some { 0 < islands * cores }
+    requires within { start + islands * cores ≤ most_places }
+    ensures { result ≡ place cores start islands }
+{
+    start * Board::PLACES + (start + islands * cores - 1)
+}
+
+// The positions, with a table of picowatts that has the best of each of their runs of at most so many islands.
+#[derive(Clone, Copy)]
+pub(crate) struct Bests<'a> {
+    pub(crate) positions: Positions<'a>,
+    pub(crate) totals: &'a [u64; SQUARE],
+    pub(crate) islands: usize,
+    ghost bounded: { Bounded positions.cores positions.loads.now totals.now islands },
+}
+
+impl Bests<'_> {
+    // What the table has for a run. A run of no islands costs nothing and has no place.
+    #[tactic(auto, using(crate::proofs::Square::place_within), unfolding(crate::specs::Square::best_at))]
+    pub(crate) fn at(&self, start: usize, islands: usize) -> Picowatts
+        requires { start + islands * self.now.positions.cores ≤ most_places }
+        ensures { result.0 ≡ best_at self.now.positions.cores self.now.totals.now start islands }
+    {
+        if islands < 1 {
+            return Picowatts(0);
+        }
+        Picowatts(self.totals[place(self.positions.cores, start, islands)])
+    }
+}
