@@ -20,12 +20,12 @@ fn index(island: u8) -> usize
 
 // The level number of each island. Loads come lightest first, so the last load above 0 on an island is its heaviest.
 pub(crate) fn number_levels(sound: &Sound<'_>, plan: &[u8], steps: &[u8], numbers: &mut [u8])
-    requires island_a_load { length plan.now ≡ length (given sound.now.job).loads }
-    requires step_a_load { length steps.now ≡ length (given sound.now.job).loads }
-    requires islands_in_range { Named 0 (given sound.now.job).islands plan.now }
+    requires island_a_load { length plan.now ≡ length sound.now.job.loads.now }
+    requires step_a_load { length steps.now ≡ length sound.now.job.loads.now }
+    requires islands_in_range { Named 0 sound.now.job.islands plan.now }
     requires steps_in_range { Below most_levels steps.now }
-    requires looked { Looked (given sound.now.job).table.frequencies (given sound.now.job).loads steps.now }
-    requires number_an_island { length numbers.old ≡ (given sound.now.job).islands }
+    requires looked { Looked sound.now.job.table.frequencies.now sound.now.job.loads.now steps.now }
+    requires number_an_island { length numbers.old ≡ sound.now.job.islands }
     requires all_zero { Blank numbers.old }
     ensures { numbers.new ≡ levels (given sound.now.job) plan.now }
 {

@@ -49,11 +49,11 @@ fn solve(positions: &Positions, islands: usize, full: &mut [u8]) -> Picowatts
     bests.at(0, islands)
 }
 
-// The same for a job that nothing refuses, with the level of each position: the loads are laid out behind the padding, and each is looked up
-// in the table and charged.
+// The same for a job that nothing refuses, with the level of each position: the loads are laid out behind the padding, looked up in the
+// table and charged.
 fn settle(sound: &Sound<'_>, steps: &mut [u8], full: &mut [u8]) -> Picowatts
-    requires step_a_position { length steps.old ≡ (given sound.now.job).islands * (given sound.now.job).cores }
-    requires island_a_position { length full.old ≡ (given sound.now.job).islands * (given sound.now.job).cores }
+    requires step_a_position { length steps.old ≡ sound.now.job.islands * sound.now.job.cores }
+    requires island_a_position { length full.old ≡ sound.now.job.islands * sound.now.job.cores }
     ensures { SettledJob (given sound.now.job) steps.new result.0 full.new }
 {
     let places = sound.places();
@@ -74,14 +74,14 @@ fn settle(sound: &Sound<'_>, steps: &mut [u8], full: &mut [u8]) -> Picowatts
 
 // Writes both buffers, from the island and the level of each load.
 fn hand_back(sound: &Sound<'_>, shown: &[u8], steps: &[u8], plan: &mut [u8], levels: &mut [u8])
-    requires island_a_load { length shown.now ≡ length (given sound.now.job).loads }
-    requires step_a_load { length steps.now ≡ length (given sound.now.job).loads }
-    requires islands_in_range { Named 0 (given sound.now.job).islands shown.now }
+    requires island_a_load { length shown.now ≡ length sound.now.job.loads.now }
+    requires step_a_load { length steps.now ≡ length sound.now.job.loads.now }
+    requires islands_in_range { Named 0 sound.now.job.islands shown.now }
     requires steps_in_range { Below most_levels steps.now }
-    requires looked { Looked (given sound.now.job).table.frequencies (given sound.now.job).loads steps.now }
+    requires looked { Looked sound.now.job.table.frequencies.now sound.now.job.loads.now steps.now }
     requires room { RoomEnough (given sound.now.job) (length plan.old) (length levels.old) }
-    ensures plan_written { plan.new ≡ shown.now ++ drop (length (given sound.now.job).loads) plan.old }
-    ensures levels_written { levels.new ≡ level_bytes (given sound.now.job) shown.now ++ drop (given sound.now.job).islands levels.old }
+    ensures plan_written { plan.new ≡ shown.now ++ drop (length sound.now.job.loads.now) plan.old }
+    ensures levels_written { levels.new ≡ level_bytes (given sound.now.job) shown.now ++ drop sound.now.job.islands levels.old }
 {
     let islands = sound.islands();
     let mut numbers = [0u8; MOST_ISLANDS];

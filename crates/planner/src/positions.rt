@@ -15,7 +15,7 @@ use units::{Femtojoules, Kilohertz, Microwatts, Picowatts};
 #[tactic(auto, using(crate::proofs::Charges::lowest_most))]
 pub(crate) fn look_up(sound: &Sound<'_>, positions: &[u64], steps: &mut [u8])
     requires { length steps.old ≡ length positions.now }
-    ensures { Looked (given sound.now.job).table.frequencies positions.now steps.new }
+    ensures { Looked sound.now.job.table.frequencies.now positions.now steps.new }
 {
     for (k, step) in steps.iter_mut().enumerate() {
         *step = sound.job.table.level(Kilohertz(positions[k])) as u8;
@@ -36,7 +36,7 @@ fn cost(frequency: Kilohertz, power: Microwatts) -> Femtojoules
 // The cost of a level, by its number.
 #[tactic(auto, unfolding(model::specs::Level::cost))]
 fn cost_at(sound: &Sound<'_>, step: u8) -> Femtojoules
-    requires { step < length (given sound.now.job).table.frequencies }
+    requires { step < length sound.now.job.table.frequencies.now }
     ensures { result.0 ≡ cost (given sound.now.job).table step }
 {
     let Table {
@@ -49,7 +49,7 @@ fn cost_at(sound: &Sound<'_>, step: u8) -> Femtojoules
 
 // The cost of each position's level.
 pub(crate) fn charge_all(sound: &Sound<'_>, steps: &[u8], rates: &mut [u64])
-    requires steps_in_table { Below (length (given sound.now.job).table.frequencies) steps.now }
+    requires steps_in_table { Below (length sound.now.job.table.frequencies.now) steps.now }
     requires rate_a_step { length rates.old ≡ length steps.now }
     ensures { Costed (given sound.now.job).table steps.now rates.new }
 {

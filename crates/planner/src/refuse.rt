@@ -1,6 +1,7 @@
 // Whether a job is refused, and by which cause: the nine are tried in their order. Nothing is asked and nothing is written here.
 ghost use Rattle.std.specs.Prelude.{◌++◌, ◌≤◌, ◌↔◌, IsTrue};
-ghost use Rattle.model.specs.Refusals.{Tried, last_of, size_conditions, table_conditions, power_conditions, load_conditions, room_conditions, conditions, number_of};
+ghost use Rattle.model.specs.Refusals.{Tried, last_of, conditions, number_of};
+ghost use Rattle.model.specs.Refusals.{size_conditions, table_conditions, power_conditions, load_conditions, room_conditions};
 ghost use Rattle.planner.specs.Given.{given};
 
 use super::job::Job;
@@ -19,7 +20,9 @@ fn slow_enough(frequencies: &[u32], loads: &[u64]) -> bool
 
 // Causes 1 to 5: the board and the table.
 fn judge_board(job: &Job<'_>) -> Result<(), Refusal>
-    ensures { Tried (size_conditions (given job.now).islands (given job.now).cores ++ (table_conditions (given job.now).table ++ power_conditions (given job.now).island_power)) (number_of result) }
+    ensures { let j = given job.now in Tried
+        (size_conditions j.islands j.cores ++ (table_conditions j.table ++ power_conditions j.island_power))
+        (number_of result) }
 {
     let board = Board::new(job.islands, job.cores, job.island_power)?;
     job.table.judge()?;
