@@ -1,4 +1,6 @@
 // The search: the totals of all runs, from the shortest up, by the recurrence over those of shorter ones.
+// Functions here ask for runs of no more islands than a board may have, and for a table that has low totals of shorter ones; every caller
+// within the crate shows it.
 ghost use Rattle.std.specs.Prelude.{◌≡◌, suc, ◌+◌, ◌-◌, ◌*◌, ◌≤◌, ◌<◌, length};
 ghost use Rattle.model.specs.Limits.{most_islands};
 ghost use Rattle.optimum.specs.Best.{itself};

@@ -1,5 +1,6 @@
 // The top island of a run, and the rows that its members fill from the lowest up.
-// A run here has one island more than may stand in its gaps.
+// A run here has one island more than may stand in its gaps. Methods ask for a member of the island, with the rows below it filled; every
+// caller within the crate shows it.
 ghost use Rattle.std.specs.Prelude.{◌≡◌, suc, ◌+◌, ◌-◌, ◌*◌, ◌≤◌, ◌<◌, ◌^◌, length, get_or};
 ghost use Rattle.model.specs.Limits.{most_islands};
 ghost use Rattle.planner.specs.Bounds.{most_charge};
@@ -35,7 +36,7 @@ impl Top<'_> {
 
     // What the member at a position is charged, with what the rest costs.
     fn with_member(&self, at: usize, rest: Picowatts) -> Picowatts
-        requires position { at < length self.now.bests.positions.loads.now }
+        requires within { at < length self.now.bests.positions.loads.now }
         requires sum_fits { self.now.rate.0 * get_or self.now.bests.positions.loads.now at 0 + rest.0 < 2 ^ 64 }
         ensures { result.0 ≡ self.now.rate.0 * get_or self.now.bests.positions.loads.now at 0 + rest.0 }
     {
