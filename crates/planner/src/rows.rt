@@ -1,6 +1,6 @@
 // The rows of a run: for the lowest members of its top island, the least cost with each number of islands in the gaps below them.
 // Methods ask for a figure that the rows have; every caller within the crate shows it.
-ghost use Rattle.std.specs.Prelude.{◌≡◌, ◌≤◌, ◌<◌, ℕ};
+ghost use Rattle.std.specs.Prelude.{◌≡◌, ◌<◌, ℕ};
 ghost use Rattle.model.specs.Limits.{most_islands, most_cores};
 ghost use Rattle.planner.specs.Rows.{row_at};
 
