@@ -1,4 +1,5 @@
 -- The figures of rows, and which gap costs least by them.
+--     one_below        a number above 0 is one more than the one below it
 --     gap_new          a gap of one island more, which costs less than all of fewer, is the first that costs least
 --     gap_kept         and one that does not is not
 --     gap_by_rows      rows that are those of the recurrence give the costs of gaps that the recurrence has
@@ -20,16 +21,16 @@ use Rattle.planner.specs.Members.{gap_costs, figure, TopFilled}
 use Rattle.planner.specs.declared.rows.Rows.{Rows}
 use Rattle.planner.specs.declared.top.Top.{Top}
 
-module _ (g : ℕ) (h : ℕ → ℕ) (some : 0 < g) where
-  one_below : suc (g - 1) ≡ g
-  one_below = omega arith
+pub one_below : (n : ℕ) → 0 < n → suc (n - 1) ≡ n
+one_below n some = omega arith
 
+module _ (g : ℕ) (h : ℕ → ℕ) (some : 0 < g) where
   pub gap_new : h g < h (first (g - 1) h) → first g h ≡ g
-  gap_new less = subst (λ (k : ℕ). h k < h (first (g - 1) h) → first k h ≡ k) one_below (first_new (g - 1) h) less
+  gap_new less = subst (λ (k : ℕ). h k < h (first (g - 1) h) → first k h ≡ k) (one_below g some) (first_new (g - 1) h) less
 
   pub gap_kept : ¬ (h g < h (first (g - 1) h)) → first g h ≡ first (g - 1) h
   gap_kept more =
-      subst (λ (k : ℕ). ¬ (h k < h (first (g - 1) h)) → first k h ≡ first (g - 1) h) one_below (first_kept (g - 1) h) more
+      subst (λ (k : ℕ). ¬ (h k < h (first (g - 1) h)) → first k h ≡ first (g - 1) h) (one_below g some) (first_kept (g - 1) h) more
 
 pub gap_by_rows :
     (Q : ℕ) (b : ℕ → ℕ → ℕ) (row f : ℕ → ℕ) (i r n : ℕ)

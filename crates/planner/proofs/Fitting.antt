@@ -10,7 +10,7 @@
 use Prim.Native.Nat.{ℕ, suc, ◌+◌, ◌-◌, ◌*◌, ◌≤◌, ◌<◌, ◌^◌, zero-le}
 use mathlib.Core.Bool.{Bool, true, false, cond}
 use mathlib.Core.List.{List}
-use native.Mathlib.Nat.{le_refl, le_trans, lt_of_le_of_lt, mul-le-mul, mul-le-mul_right}
+use native.Mathlib.Nat.{le_refl, le_of_eq, le_trans, lt_of_le_of_lt, mul-le-mul, mul-le-mul_right}
 use native.Mathlib.Omega.{arith}
 use lib.Dec.{ltb}
 use lib.ListN.{length, get_or}
@@ -84,19 +84,6 @@ run_most p totals i m few bounded within =
       p.some_core,
     )
 
-pub cost_fits :
-    (bests : Bests) (i m : ℕ)
-    → m < most_islands
-    → m ≤ bests.islands
-    → i + suc m * bests.positions.cores ≤ length bests.positions.loads.now
-    → run_cost bests.positions.cores bests.positions.own.0 bests.positions.loads.now bests.positions.rates.now
-    (best_at bests.positions.cores bests.totals.now) i m
-    < 2 ^ 64
-cost_fits bests i m few known within =
-    let most =
-    run_most bests.positions bests.totals.now i m few (λ j g h. bests.bounded j g (le_trans h known)) within in
-    omega (arith, most, few)
-
 pub gaps_fit :
     (bests : Bests) (rows : Rows) (i r m n : ℕ)
     → Low rows.figures r m
@@ -125,8 +112,13 @@ module _ (top : Top) where
         few = top.few;
         bounded = λ i g few. top.bests.bounded i g (le_trans few top.known);
         within = top.within;
-        low_rate = top.low_rate;
+        low_rate = le_trans (le_of_eq top.charged) (p.cheap.cheap _);
       }
+
+  pub cost_fits : run_cost p.cores p.own.0 p.loads.now p.rates.now (best_at p.cores top.bests.totals.now) top.start top.inner < 2 ^ 64
+  cost_fits =
+      let most = run_most p top.bests.totals.now top.start top.inner top.few top_fits.bounded top.within in
+      omega (arith, most, top.few)
 
   figure_most : (r n : ℕ) → r < p.cores → n ≤ top.inner → figure top r n ≤ n * most_draw + suc r * most_member
   figure_most = row_most p top.bests.totals.now top.rate.0 top.start top.inner top_fits

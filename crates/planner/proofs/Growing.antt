@@ -1,12 +1,9 @@
 -- The table of bests grows by the runs of one island more.
---     nothing_bounded, nothing_filled    any table has the bests of runs of no islands
---     Growing            a table in which the runs of m + 1 islands that begin before `start` are added
---     growing_none       none is added yet
---     growing_more       one more is added
---     growing_all        all are added
---     growing_bounded    what bounds the table before bounds it while it grows
---     grown_bounded      and when it has grown
---     grown_filled       a table that has the best of every shorter run then has those of one island more
+--     Growing        a table in which the runs of m + 1 islands that begin before `start` are added
+--     growing_more   one more is added
+--     Known          a table that has the best of each run of at most m islands
+--     known_none     any table is one for no islands
+--     known_more     and with the runs of one island more added for these
 -- Assumes nothing.
 use Prim.Native.Nat.{ℕ, zero, suc, ◌+◌, ◌-◌, ◌*◌, ◌%◌, ◌≤◌, ◌<◌, zero-le}
 use mathlib.Core.Path.{◌≡◌, sym, ap, ◌∙◌, subst}
@@ -20,9 +17,8 @@ use Rattle.model.specs.Limits.{most_islands, most_places}
 use Rattle.optimum.specs.Best.{itself, load_at, top_load, fill, best}
 use Rattle.optimum.proofs.Recurrence.{Agree, fill_same, best_none, best_is}
 use Rattle.planner.specs.Positions.{Charged}
-use Rattle.planner.specs.Square.{place, best_at, run_cost, Grown, Filled, Found}
 use Rattle.planner.specs.declared.charged.Positions.{Positions}
-use Rattle.planner.specs.Square.{square_size}
+use Rattle.planner.specs.Square.{square_size, place, best_at, run_cost, Grown, Filled, Found}
 use Rattle.planner.specs.Bounds.{most_draw, Bounded}
 use Rattle.planner.proofs.Square.{best_stored, best_others}
 use Rattle.planner.proofs.Fitting.{run_most}
@@ -42,12 +38,12 @@ cost_same Q own ws rates b b' i m same =
     ap (λ (c : ℕ). itself own (top_load Q ws i m) + c)
     (fill_same Q ws b b' (get_or rates (i + (m * Q + (Q - 1))) 0) i (Q - 1) m same)
 
-pub nothing_bounded : (Q : ℕ) (ws bests : List ℕ) → Bounded Q ws bests 0
+nothing_bounded : (Q : ℕ) (ws bests : List ℕ) → Bounded Q ws bests 0
 unfolding best_at
 nothing_bounded Q ws bests i zero few inside = zero-le
 nothing_bounded Q ws bests i (suc g) few inside = absurd (not-suc-le-zero few)
 
-pub nothing_filled : (Q own : ℕ) (ws rates bests : List ℕ) → Found Q own ws rates bests 0
+nothing_filled : (Q own : ℕ) (ws rates bests : List ℕ) → Found Q own ws rates bests 0
 unfolding best_at
 nothing_filled Q own ws rates bests rate charged i zero few inside = sym (best_none Q own rate ws i)
 nothing_filled Q own ws rates bests rate charged i (suc g) few inside = absurd (not-suc-le-zero few)
@@ -103,7 +99,8 @@ module _ (p : Positions) (before : List ℕ) (m : ℕ) where
       other i g inside = best_others Q now start m cost p.some_core square room i g (le_trans inside p.few_places)
 
   module _ (after : List ℕ) (grown : Grown Q p.own.0 ws p.rates.now before after m) where
-    pub grown_bounded : m < most_islands → Bounded Q ws before m → Bounded Q ws after (suc m)
+    -- what bounds the table before bounds it when it has grown
+    grown_bounded : m < most_islands → Bounded Q ws before m → Bounded Q ws after (suc m)
     grown_bounded few bounded i g bound inside =
         elim (dec_lt m g) [
           | yes above ↦
@@ -118,7 +115,8 @@ module _ (p : Positions) (before : List ℕ) (m : ℕ) where
         drawn : i + suc m * Q ≤ length ws → total i ≤ suc m * most_draw
         drawn within = run_most p before i m few bounded within
 
-    pub grown_filled :
+    -- a table that has the best of every shorter run then has those of one island more
+    grown_filled :
         (rate : ℕ → ℕ) → Charged rate ws p.rates.now → Filled Q p.own.0 rate ws before m → Filled Q p.own.0 rate ws after (suc m)
     unfolding run_cost top_load load_at
     grown_filled rate charged filled i g bound inside =
@@ -139,7 +137,6 @@ module _ (p : Positions) (before : List ℕ) (m : ℕ) where
             (charged (i + (m * Q + (Q - 1))) (last_inside Q ws i m p.some_core within))
             ∙ sym (best_is Q p.own.0 rate ws i m)
 
--- a table that has the best of each run of at most m islands
 pub record Known (p : Positions) (totals : List ℕ) (m : ℕ) : Type 0 where
   pub bounded : Bounded p.cores p.loads.now totals m
   pub found : Found p.cores p.own.0 p.loads.now p.rates.now totals m

@@ -22,14 +22,11 @@ use Rattle.planner.specs.declared.bests.Bests.{Bests}
 use Rattle.planner.specs.Square.{best_at}
 use Rattle.planner.specs.Rows.{row_at, Filling}
 use Rattle.planner.specs.Written.{RunWritten, GapsWritten}
-use Rattle.planner.proofs.Figures.{gap_by_rows}
+use Rattle.planner.proofs.Figures.{one_below, gap_by_rows}
 use Rattle.planner.proofs.Stores.{sets_joined, sets_three}
 
 pub found_within : (m g : ℕ) (h : ℕ → ℕ) → g ≡ first m h → g ≤ m
 found_within m g h found = omega (arith, first_within m h)
-
-one_below : (r : ℕ) → 0 < r → suc (r - 1) ≡ r
-one_below r h = omega arith
 
 module _ (bests : Bests) where
   abbrev Q : ℕ

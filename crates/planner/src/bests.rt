@@ -1,6 +1,6 @@
 // The table of bests: a square by first and last position, where the best total of each run stands.
-// A run begins at a position, counted from 0, and has whole islands; its last position holds the heaviest load of its top island.
-// Assumes nothing.
+// A run begins at a position, counted from 0, and has whole islands; its last position holds the heaviest load of its top island. Functions
+// here ask for a run within the largest board; every caller within the crate shows it.
 ghost use Rattle.std.specs.Prelude.{◌≡◌, ◌+◌, ◌*◌, ◌≤◌, ◌<◌};
 ghost use Rattle.model.specs.Limits.{most_places};
 ghost use Rattle.planner.specs.Square.{place, best_at};

@@ -1,5 +1,6 @@
 // The positions of a board: at each a load, and what an island is charged whose heaviest load that is. Islands are of one size, and there
-// are so few positions and so low loads and charges that every sum of the search fits in 64 bits. Assumes nothing.
+// are so few positions and so low loads and charges that every sum of the search fits in 64 bits. Methods ask for one of the positions;
+// every caller within the crate shows it.
 ghost use Rattle.std.specs.Prelude.{◌≡◌, ◌≤◌, ◌<◌, length, get_or};
 ghost use Rattle.model.specs.Limits.{most_cores, most_places};
 ghost use Rattle.planner.specs.Bounds.{most_own, Light, Cheap};

@@ -1,5 +1,5 @@
 // The gap below a member: how many of the islands below stand in it.
-// What that costs must fit in 64 bits; every caller within the crate shows it.
+// Methods ask for rows and bests so low that what any gap costs fits in 64 bits; every caller within the crate shows it.
 ghost use Rattle.std.specs.Prelude.{◌≡◌, suc, ◌+◌, ◌*◌, ◌≤◌, ◌<◌, ◌^◌};
 ghost use Rattle.model.specs.Limits.{most_islands, most_cores, most_places};
 ghost use Rattle.optimum.specs.Best.{first, least};
@@ -21,10 +21,10 @@ impl Bests<'_> {
     // What the gap below the highest of r + 2 members costs with all below it, if g of the m islands stand in the gap.
     #[tactic(auto, unfolding(optimum::specs::Best::gap_cost))]
     fn gap_cost(&self, rows: &Rows, start: usize, r: usize, m: usize, g: usize) -> Picowatts
-        requires member { r < most_cores }
-        requires islands { m < most_islands }
-        requires in_gap { g ≤ m }
-        requires within { start + (m * self.now.positions.cores + suc r) ≤ most_places }
+        requires few_members { r < most_cores }
+        requires few_islands { m < most_islands }
+        requires gap_within { g ≤ m }
+        requires run_within { start + (m * self.now.positions.cores + suc r) ≤ most_places }
         requires fits { gap_costs self.now rows.now start r m g < 2 ^ 64 }
         ensures { result.0 ≡ gap_costs self.now rows.now start r m g }
     {
@@ -37,9 +37,9 @@ impl Bests<'_> {
     // The smallest gap that costs least.
     #[tactic(auto, using(crate::proofs::Figures::gap_new, crate::proofs::Figures::gap_kept), unfolding(optimum::specs::Best::first, optimum::specs::Best::least))]
     pub(crate) fn least_gap(&self, rows: &Rows, start: usize, r: usize, m: usize) -> Gap
-        requires member { r < most_cores }
-        requires islands { m < most_islands }
-        requires within { start + (m * self.now.positions.cores + suc r) ≤ most_places }
+        requires few_members { r < most_cores }
+        requires few_islands { m < most_islands }
+        requires run_within { start + (m * self.now.positions.cores + suc r) ≤ most_places }
         requires all_fit { AllBelow (2 ^ 64) m (gap_costs self.now rows.now start r m) }
         ensures smallest { result.islands ≡ first m (gap_costs self.now rows.now start r m) }
         ensures least { result.cost.0 ≡ least m (gap_costs self.now rows.now start r m) }

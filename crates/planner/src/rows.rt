@@ -1,6 +1,6 @@
 // The rows of a run: for the lowest members of its top island, the least cost with each number of islands in the gaps below them.
-// Assumes nothing.
-ghost use Rattle.std.specs.Prelude.{◌≡◌, ◌≤◌, ◌<◌, ℕ};
+// Methods ask for a figure that the rows have; every caller within the crate shows it.
+ghost use Rattle.std.specs.Prelude.{◌≡◌, ◌<◌, ℕ};
 ghost use Rattle.model.specs.Limits.{most_islands, most_cores};
 ghost use Rattle.planner.specs.Rows.{row_at};
 
@@ -20,8 +20,8 @@ pub(crate) struct Rows {
 impl Rows {
     #[tactic(auto, unfolding(crate::specs::Rows::row_at))]
     pub(crate) fn at(&self, r: usize, n: usize) -> Picowatts
-        requires member { r < most_cores }
-        requires islands { n < most_islands }
+        requires few_members { r < most_cores }
+        requires few_islands { n < most_islands }
         ensures { result.0 ≡ row_at self.now.figures r n }
     {
         Picowatts(self.figures[r * MOST_ISLANDS + n])
@@ -29,8 +29,8 @@ impl Rows {
 
     #[tactic(auto, unfolding(crate::specs::Rows::row_at))]
     pub(crate) fn set(&mut self, r: usize, n: usize, cost: Picowatts)
-        requires member { r < most_cores }
-        requires islands { n < most_islands }
+        requires few_members { r < most_cores }
+        requires few_islands { n < most_islands }
         ensures stored { row_at self.new.figures r n ≡ cost.0 }
         ensures others_kept { (s k : ℕ) → k < most_islands → ¬ ((s ≡ r) × (k ≡ n)) → row_at self.new.figures s k ≡ row_at self.old.figures s k }
     {

@@ -1,15 +1,18 @@
-// The top island of a run, and the rows that its members fill from the lowest up.
-// A run here has one island more than may stand in its gaps.
+// The top island of a run: the rows that its members fill from the lowest up, and with them the total of the run.
+// A run here has one island more than may stand in its gaps. Methods ask for a member of the island, with the rows below it filled; every
+// caller within the crate shows it.
 ghost use Rattle.std.specs.Prelude.{◌≡◌, suc, ◌+◌, ◌-◌, ◌*◌, ◌≤◌, ◌<◌, ◌^◌, length, get_or};
 ghost use Rattle.model.specs.Limits.{most_islands};
-ghost use Rattle.planner.specs.Bounds.{most_charge};
+ghost use Rattle.optimum.specs.Best.{itself};
+ghost use Rattle.planner.specs.Square.{best_at, run_cost};
 ghost use Rattle.planner.specs.Written.{Low};
 
 use super::bests::Bests;
 use super::rows::Rows;
 use units::{Femtojoules, Kilohertz, Picowatts};
 
-// By the first position of its run, the islands that may stand in its gaps, and what each kilohertz on it is charged.
+// By the first position of its run, the islands that may stand in its gaps, and what each kilohertz on it is charged: the rate of the run's
+// last position, where its heaviest load stands.
 #[derive(Clone, Copy)]
 pub(crate) struct Top<'a> {
     pub(crate) bests: Bests<'a>,
@@ -19,7 +22,18 @@ pub(crate) struct Top<'a> {
     ghost few: { inner < most_islands },
     ghost known: { inner ≤ bests.islands },
     ghost within: { start + suc inner * bests.positions.cores ≤ length bests.positions.loads.now },
-    ghost low_rate: { rate.0 ≤ most_charge },
+    ghost charged: { rate.0 ≡ get_or bests.positions.rates.now (start + (inner * bests.positions.cores + (bests.positions.cores - 1))) 0 },
+}
+
+// What an island draws by itself: nothing where its heaviest load is 0.
+#[tactic(auto, unfolding(optimum::specs::Best::itself))]
+fn by_itself(own: Picowatts, top: Kilohertz) -> Picowatts
+    ensures { result.0 ≡ itself own.0 top.0 }
+{
+    if top.0 < 1 {
+        return Picowatts(0);
+    }
+    own
 }
 
 // What a load is charged. One kilohertz at one femtojoule per cycle is one picowatt.
@@ -35,7 +49,7 @@ impl Top<'_> {
 
     // What the member at a position is charged, with what the rest costs.
     fn with_member(&self, at: usize, rest: Picowatts) -> Picowatts
-        requires position { at < length self.now.bests.positions.loads.now }
+        requires within { at < length self.now.bests.positions.loads.now }
         requires sum_fits { self.now.rate.0 * get_or self.now.bests.positions.loads.now at 0 + rest.0 < 2 ^ 64 }
         ensures { result.0 ≡ self.now.rate.0 * get_or self.now.bests.positions.loads.now at 0 + rest.0 }
     {
@@ -77,5 +91,19 @@ impl Top<'_> {
         for r in 0..self.bests.positions.cores - 1 {
             self.next_row(rows, r);
         }
+    }
+
+    // The total of the run.
+    #[tactic(auto, using(crate::proofs::Fitting::cost_fits), unfolding(crate::specs::Square::run_cost, optimum::specs::Best::top_load, optimum::specs::Best::load_at))]
+    pub(crate) fn run_cost(&self, rows: &mut Rows) -> Picowatts
+        ensures { let p = self.now.bests.positions in result.0 ≡ run_cost p.cores p.own.0 p.loads.now p.rates.now (best_at p.cores self.now.bests.totals.now) self.now.start self.now.inner }
+    {
+        self.fill_rows(rows);
+        let positions = self.bests.positions;
+        let cores = positions.cores;
+        let last = self.start + (self.inner * cores + (cores - 1));
+        let itself = by_itself(positions.own, positions.load(last));
+        let members = rows.at(cores - 1, self.inner);
+        Picowatts(itself.0 + members.0)
     }
 }
