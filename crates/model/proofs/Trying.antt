@@ -1,6 +1,5 @@
 -- "The first that applies" is one: of each list of conditions at most one number is the first, and each number is one cause.
 --     tried_one        two numbers that are the first are equal
---     tried_refused    what is refused by a list is refused by each longer one, by the same number
 --     tried_onward     where a list's conditions all hold, what follows it decides
 --     tried_before     where what follows it all holds, the list decides
 --     all_hold, hold_all    0 says that they all hold, where each number is above 0
@@ -32,11 +31,6 @@ tried_one (c ∷ cs) m n (inl p) (inl q) = p.1 ∙ sym q.1
 tried_one (c ∷ cs) m n (inl p) (inr q) = absurd (p.0 q.0)
 tried_one (c ∷ cs) m n (inr p) (inl q) = absurd (q.0 p.0)
 tried_one (c ∷ cs) m n (inr p) (inr q) = tried_one cs m n p.1 q.1
-
-pub tried_refused : (cs ds : List Condition) (n : ℕ) → 0 < n → Tried cs n → Tried (cs ++ ds) n
-tried_refused [] ds n some none = absurd (omega arith)
-tried_refused (c ∷ cs) ds n some (inl refused) = inl refused
-tried_refused (c ∷ cs) ds n some (inr passed) = inr (passed.0, tried_refused cs ds n some passed.1)
 
 -- each has a number above 0, so that 0 is left where none is refused
 abbrev pub Numbers : List Condition → Type 0
