@@ -98,44 +98,43 @@ module _ (p : Positions) (before : List ℕ) (m : ℕ) where
           → best_at Q (set now (place Q start (suc m)) cost) i g ≡ best_at Q now i g
       other i g inside = best_others Q now start m cost p.some_core square room i g (le_trans inside p.few_places)
 
-  module _ (after : List ℕ) (grown : Grown Q p.own.0 ws p.rates.now before after m) where
-    -- what bounds the table before bounds it when it has grown
-    grown_bounded : m < most_islands → Bounded Q ws before m → Bounded Q ws after (suc m)
-    grown_bounded few bounded i g bound inside =
-        elim (dec_lt m g) [
-          | yes above ↦
-              let all : g ≡ suc m = omega arith in
-              let within = subst (λ (n : ℕ). i + n * Q ≤ length ws) all inside in
-              subst (λ (n : ℕ). best_at Q after i n ≤ n * most_draw) (sym all)
-              (subst (λ (c : ℕ). c ≤ suc m * most_draw) (sym (grown.added i within)) (drawn within))
-          | no below ↦
-              subst (λ (c : ℕ). c ≤ g * most_draw) (sym (grown.kept i g (omega arith) inside)) (bounded i g (omega arith) inside)
-        ]
-      where
-        drawn : i + suc m * Q ≤ length ws → total i ≤ suc m * most_draw
-        drawn within = run_most p before i m few bounded within
+  -- what holds of each run of at most m islands, and of each of m + 1, holds of each of at most m + 1
+  one_more :
+      (P : ℕ → ℕ → Type 0)
+      → ((i g : ℕ) → g ≤ m → i + g * Q ≤ length ws → P i g)
+      → ((i : ℕ) → i + suc m * Q ≤ length ws → P i (suc m))
+      → (i g : ℕ)
+      → g ≤ suc m
+      → i + g * Q ≤ length ws
+      → P i g
+  one_more P shorter longest i g few inside =
+      elim (dec_lt m g) [
+        | yes above ↦
+            let all : suc m ≡ g = omega arith in
+            subst (λ (n : ℕ). i + n * Q ≤ length ws → P i n) all (longest i) inside
+        | no below ↦ shorter i g (omega arith) inside
+      ]
 
-    -- a table that has the best of every shorter run then has those of one island more
+  module _ (after : List ℕ) (grown : Grown Q p.own.0 ws p.rates.now before after m) where
+    grown_bounded : m < most_islands → Bounded Q ws before m → Bounded Q ws after (suc m)
+    grown_bounded few bounded =
+        one_more (λ i g. best_at Q after i g ≤ g * most_draw)
+        (λ i g fewer inside. omega (arith, grown.kept i g fewer inside, bounded i g fewer inside))
+        (λ i inside. omega (arith, grown.added i inside, run_most p before i m few bounded inside))
+
     grown_filled :
         (rate : ℕ → ℕ) → Charged rate ws p.rates.now → Filled Q p.own.0 rate ws before m → Filled Q p.own.0 rate ws after (suc m)
     unfolding run_cost top_load load_at
-    grown_filled rate charged filled i g bound inside =
-        elim (dec_lt m g) [
-          | yes above ↦
-              let all : g ≡ suc m = omega arith in
-              subst (λ (n : ℕ). best_at Q after i n ≡ best Q p.own.0 rate ws i n) (sym all)
-              (one (subst (λ (n : ℕ). i + n * Q ≤ length ws) all inside))
-          | no below ↦ grown.kept i g (omega arith) inside ∙ filled i g (omega arith) inside
-        ]
-      where
-        one : i + suc m * Q ≤ length ws → best_at Q after i (suc m) ≡ best Q p.own.0 rate ws i (suc m)
-        one within =
-            grown.added i within
-            ∙ cost_same Q p.own.0 ws p.rates.now (best_at Q before) (best Q p.own.0 rate ws) i m
-            (λ j k few ends. filled j k few (omega (arith, last_inside Q ws i m p.some_core within)))
-            ∙ ap (λ (ρ : ℕ). itself p.own.0 (top_load Q ws i m) + fill Q ws (best Q p.own.0 rate ws) ρ i (Q - 1) m)
-            (charged (i + (m * Q + (Q - 1))) (last_inside Q ws i m p.some_core within))
-            ∙ sym (best_is Q p.own.0 rate ws i m)
+    grown_filled rate charged filled =
+        one_more (λ i g. best_at Q after i g ≡ best Q p.own.0 rate ws i g)
+        (λ i g fewer inside. grown.kept i g fewer inside ∙ filled i g fewer inside)
+        (λ i inside.
+        grown.added i inside
+        ∙ cost_same Q p.own.0 ws p.rates.now (best_at Q before) (best Q p.own.0 rate ws) i m
+        (λ j k few ends. filled j k few (omega (arith, last_inside Q ws i m p.some_core inside)))
+        ∙ ap (λ (ρ : ℕ). itself p.own.0 (top_load Q ws i m) + fill Q ws (best Q p.own.0 rate ws) ρ i (Q - 1) m)
+        (charged (i + (m * Q + (Q - 1))) (last_inside Q ws i m p.some_core inside))
+        ∙ sym (best_is Q p.own.0 rate ws i m))
 
 pub record Known (p : Positions) (totals : List ℕ) (m : ℕ) : Type 0 where
   pub bounded : Bounded p.cores p.loads.now totals m
