@@ -12,15 +12,14 @@ use native.Mathlib.Nat.{not-suc-le-zero, le_trans, mod-eq_of_lt}
 use native.Mathlib.Decide.{dec_lt, ℕ_discrete}
 use native.Mathlib.Numerals.{add-one}
 use native.Mathlib.Omega.{arith}
-use lib.ListN.{length, get_or, set}
+use lib.ListN.{length, get_or}
 use Rattle.model.specs.Limits.{most_islands, most_places}
 use Rattle.optimum.specs.Best.{itself, load_at, top_load, fill, best}
 use Rattle.optimum.proofs.Recurrence.{Agree, fill_same, best_none, best_is}
 use Rattle.planner.specs.Positions.{Charged}
 use Rattle.planner.specs.declared.charged.Positions.{Positions}
-use Rattle.planner.specs.Square.{square_size, place, best_at, run_cost, Grown, Filled, Found}
+use Rattle.planner.specs.Square.{best_at, run_cost, Grown, Filled, Found}
 use Rattle.planner.specs.Bounds.{most_draw, Bounded}
-use Rattle.planner.proofs.Square.{best_stored, best_others}
 use Rattle.planner.proofs.Fitting.{run_most}
 
 -- the last position of a run is within it
@@ -64,39 +63,27 @@ module _ (p : Positions) (before : List ℕ) (m : ℕ) where
     pub added : (i : ℕ) → i < start → i + suc m * Q ≤ length ws → best_at Q now i (suc m) ≡ total i
 
   pub growing_more :
-      (now : List ℕ) (start at cost : ℕ)
-      → length now ≡ square_size
+      (now next : List ℕ) (start : ℕ)
       → start + suc m * Q ≤ length ws
-      → at ≡ place Q start (suc m)
-      → cost ≡ run_cost Q p.own.0 ws p.rates.now (best_at Q now) start m
+      → best_at Q next start (suc m) ≡ run_cost Q p.own.0 ws p.rates.now (best_at Q now) start m
+      → ((i g : ℕ) → i + g * Q ≤ most_places → ¬ ((i ≡ start) × (g ≡ suc m)) → best_at Q next i g ≡ best_at Q now i g)
       → Growing now start
-      → Growing (set now at cost) (start + 1)
-  growing_more now start at cost square within here is growing =
-      subst (λ (n : ℕ). Growing (set now n cost) (start + 1)) (sym here)
-      (record {
-        kept = λ i g few inside. other i g inside (λ same. omega (arith, same.1)) ∙ growing.kept i g few inside;
+      → Growing next (start + 1)
+  growing_more now next start within stored others growing =
+      record {
+        kept = λ i g few inside. others i g (le_trans inside p.few_places) (λ same. omega (arith, same.1)) ∙ growing.kept i g few inside;
         added = λ i bound inside.
             elim (ℕ_discrete i start) [
               | yes e ↦
-                  ap (λ (j : ℕ). best_at Q (set now (place Q start (suc m)) cost) j (suc m)) e
-                  ∙ best_stored Q now start m cost p.some_core square room
-                  ∙ is
+                  ap (λ (j : ℕ). best_at Q next j (suc m)) e
+                  ∙ stored
                   ∙ cost_same Q p.own.0 ws p.rates.now (best_at Q now) (best_at Q before) start m
                   (λ j g few ends. growing.kept j g few (omega (arith, last_inside Q ws start m p.some_core within)))
                   ∙ ap total (sym e)
-              | no differs ↦ other i (suc m) inside (λ same. differs same.0) ∙ growing.added i (omega arith) inside
+              | no differs ↦
+                  others i (suc m) (le_trans inside p.few_places) (λ same. differs same.0) ∙ growing.added i (omega arith) inside
             ];
-      })
-    where
-      room : start + suc m * Q ≤ most_places
-      room = le_trans within p.few_places
-
-      other :
-          (i g : ℕ)
-          → i + g * Q ≤ length ws
-          → ¬ ((i ≡ start) × (g ≡ suc m))
-          → best_at Q (set now (place Q start (suc m)) cost) i g ≡ best_at Q now i g
-      other i g inside = best_others Q now start m cost p.some_core square room i g (le_trans inside p.few_places)
+      }
 
   -- what holds of each run of at most m islands, and of each of m + 1, holds of each of at most m + 1
   one_more :
