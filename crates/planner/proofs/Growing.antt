@@ -12,15 +12,14 @@ use native.Mathlib.Nat.{not-suc-le-zero, le_trans, mod-eq_of_lt}
 use native.Mathlib.Decide.{dec_lt, ℕ_discrete}
 use native.Mathlib.Numerals.{add-one}
 use native.Mathlib.Omega.{arith}
-use lib.ListN.{length, get_or, set}
+use lib.ListN.{length, get_or}
 use Rattle.model.specs.Limits.{most_islands, most_places}
 use Rattle.optimum.specs.Best.{itself, load_at, top_load, fill, best}
 use Rattle.optimum.proofs.Recurrence.{Agree, fill_same, best_none, best_is}
 use Rattle.planner.specs.Positions.{Charged}
 use Rattle.planner.specs.declared.charged.Positions.{Positions}
-use Rattle.planner.specs.Square.{square_size, place, best_at, run_cost, Grown, Filled, Found}
+use Rattle.planner.specs.Square.{best_at, run_cost, Grown, Filled, Found}
 use Rattle.planner.specs.Bounds.{most_draw, Bounded}
-use Rattle.planner.proofs.Square.{best_stored, best_others}
 use Rattle.planner.proofs.Fitting.{run_most}
 
 -- the last position of a run is within it
@@ -64,78 +63,65 @@ module _ (p : Positions) (before : List ℕ) (m : ℕ) where
     pub added : (i : ℕ) → i < start → i + suc m * Q ≤ length ws → best_at Q now i (suc m) ≡ total i
 
   pub growing_more :
-      (now : List ℕ) (start at cost : ℕ)
-      → length now ≡ square_size
+      (now next : List ℕ) (start : ℕ)
       → start + suc m * Q ≤ length ws
-      → at ≡ place Q start (suc m)
-      → cost ≡ run_cost Q p.own.0 ws p.rates.now (best_at Q now) start m
+      → best_at Q next start (suc m) ≡ run_cost Q p.own.0 ws p.rates.now (best_at Q now) start m
+      → ((i g : ℕ) → i + g * Q ≤ most_places → ¬ ((i ≡ start) × (g ≡ suc m)) → best_at Q next i g ≡ best_at Q now i g)
       → Growing now start
-      → Growing (set now at cost) (start + 1)
-  growing_more now start at cost square within here is growing =
-      subst (λ (n : ℕ). Growing (set now n cost) (start + 1)) (sym here)
-      (record {
-        kept = λ i g few inside. other i g inside (λ same. omega (arith, same.1)) ∙ growing.kept i g few inside;
+      → Growing next (start + 1)
+  growing_more now next start within stored others growing =
+      record {
+        kept = λ i g few inside. others i g (le_trans inside p.few_places) (λ same. omega (arith, same.1)) ∙ growing.kept i g few inside;
         added = λ i bound inside.
             elim (ℕ_discrete i start) [
               | yes e ↦
-                  ap (λ (j : ℕ). best_at Q (set now (place Q start (suc m)) cost) j (suc m)) e
-                  ∙ best_stored Q now start m cost p.some_core square room
-                  ∙ is
+                  ap (λ (j : ℕ). best_at Q next j (suc m)) e
+                  ∙ stored
                   ∙ cost_same Q p.own.0 ws p.rates.now (best_at Q now) (best_at Q before) start m
                   (λ j g few ends. growing.kept j g few (omega (arith, last_inside Q ws start m p.some_core within)))
                   ∙ ap total (sym e)
-              | no differs ↦ other i (suc m) inside (λ same. differs same.0) ∙ growing.added i (omega arith) inside
+              | no differs ↦
+                  others i (suc m) (le_trans inside p.few_places) (λ same. differs same.0) ∙ growing.added i (omega arith) inside
             ];
-      })
-    where
-      room : start + suc m * Q ≤ most_places
-      room = le_trans within p.few_places
+      }
 
-      other :
-          (i g : ℕ)
-          → i + g * Q ≤ length ws
-          → ¬ ((i ≡ start) × (g ≡ suc m))
-          → best_at Q (set now (place Q start (suc m)) cost) i g ≡ best_at Q now i g
-      other i g inside = best_others Q now start m cost p.some_core square room i g (le_trans inside p.few_places)
+  -- what holds of each run of at most m islands, and of each of m + 1, holds of each of at most m + 1
+  one_more :
+      (P : ℕ → ℕ → Type 0)
+      → ((i g : ℕ) → g ≤ m → i + g * Q ≤ length ws → P i g)
+      → ((i : ℕ) → i + suc m * Q ≤ length ws → P i (suc m))
+      → (i g : ℕ)
+      → g ≤ suc m
+      → i + g * Q ≤ length ws
+      → P i g
+  one_more P shorter longest i g few inside =
+      elim (dec_lt m g) [
+        | yes above ↦
+            let all : suc m ≡ g = omega arith in
+            subst (λ (n : ℕ). i + n * Q ≤ length ws → P i n) all (longest i) inside
+        | no below ↦ shorter i g (omega arith) inside
+      ]
 
   module _ (after : List ℕ) (grown : Grown Q p.own.0 ws p.rates.now before after m) where
-    -- what bounds the table before bounds it when it has grown
     grown_bounded : m < most_islands → Bounded Q ws before m → Bounded Q ws after (suc m)
-    grown_bounded few bounded i g bound inside =
-        elim (dec_lt m g) [
-          | yes above ↦
-              let all : g ≡ suc m = omega arith in
-              let within = subst (λ (n : ℕ). i + n * Q ≤ length ws) all inside in
-              subst (λ (n : ℕ). best_at Q after i n ≤ n * most_draw) (sym all)
-              (subst (λ (c : ℕ). c ≤ suc m * most_draw) (sym (grown.added i within)) (drawn within))
-          | no below ↦
-              subst (λ (c : ℕ). c ≤ g * most_draw) (sym (grown.kept i g (omega arith) inside)) (bounded i g (omega arith) inside)
-        ]
-      where
-        drawn : i + suc m * Q ≤ length ws → total i ≤ suc m * most_draw
-        drawn within = run_most p before i m few bounded within
+    grown_bounded few bounded =
+        one_more (λ i g. best_at Q after i g ≤ g * most_draw)
+        (λ i g fewer inside. omega (arith, grown.kept i g fewer inside, bounded i g fewer inside))
+        (λ i inside. omega (arith, grown.added i inside, run_most p before i m few bounded inside))
 
-    -- a table that has the best of every shorter run then has those of one island more
     grown_filled :
         (rate : ℕ → ℕ) → Charged rate ws p.rates.now → Filled Q p.own.0 rate ws before m → Filled Q p.own.0 rate ws after (suc m)
     unfolding run_cost top_load load_at
-    grown_filled rate charged filled i g bound inside =
-        elim (dec_lt m g) [
-          | yes above ↦
-              let all : g ≡ suc m = omega arith in
-              subst (λ (n : ℕ). best_at Q after i n ≡ best Q p.own.0 rate ws i n) (sym all)
-              (one (subst (λ (n : ℕ). i + n * Q ≤ length ws) all inside))
-          | no below ↦ grown.kept i g (omega arith) inside ∙ filled i g (omega arith) inside
-        ]
-      where
-        one : i + suc m * Q ≤ length ws → best_at Q after i (suc m) ≡ best Q p.own.0 rate ws i (suc m)
-        one within =
-            grown.added i within
-            ∙ cost_same Q p.own.0 ws p.rates.now (best_at Q before) (best Q p.own.0 rate ws) i m
-            (λ j k few ends. filled j k few (omega (arith, last_inside Q ws i m p.some_core within)))
-            ∙ ap (λ (ρ : ℕ). itself p.own.0 (top_load Q ws i m) + fill Q ws (best Q p.own.0 rate ws) ρ i (Q - 1) m)
-            (charged (i + (m * Q + (Q - 1))) (last_inside Q ws i m p.some_core within))
-            ∙ sym (best_is Q p.own.0 rate ws i m)
+    grown_filled rate charged filled =
+        one_more (λ i g. best_at Q after i g ≡ best Q p.own.0 rate ws i g)
+        (λ i g fewer inside. grown.kept i g fewer inside ∙ filled i g fewer inside)
+        (λ i inside.
+        grown.added i inside
+        ∙ cost_same Q p.own.0 ws p.rates.now (best_at Q before) (best Q p.own.0 rate ws) i m
+        (λ j k few ends. filled j k few (omega (arith, last_inside Q ws i m p.some_core inside)))
+        ∙ ap (λ (ρ : ℕ). itself p.own.0 (top_load Q ws i m) + fill Q ws (best Q p.own.0 rate ws) ρ i (Q - 1) m)
+        (charged (i + (m * Q + (Q - 1))) (last_inside Q ws i m p.some_core inside))
+        ∙ sym (best_is Q p.own.0 rate ws i m))
 
 pub record Known (p : Positions) (totals : List ℕ) (m : ℕ) : Type 0 where
   pub bounded : Bounded p.cores p.loads.now totals m

@@ -1,7 +1,7 @@
 // The table of bests: a square by first and last position, where the best total of each run stands.
 // A run begins at a position, counted from 0, and has whole islands; its last position holds the heaviest load of its top island. Functions
 // here ask for a run within the largest board; every caller within the crate shows it.
-ghost use Rattle.std.specs.Prelude.{◌≡◌, ◌+◌, ◌*◌, ◌≤◌, ◌<◌};
+ghost use Rattle.std.specs.Prelude.{◌≡◌, ℕ, ◌+◌, ◌*◌, ◌≤◌, ◌<◌};
 ghost use Rattle.model.specs.Limits.{most_places};
 ghost use Rattle.planner.specs.Square.{place, best_at};
 ghost use Rattle.planner.specs.Bounds.{Bounded};
@@ -15,12 +15,30 @@ pub(crate) const SQUARE: usize = Board::PLACES * Board::PLACES;
 
 // The place of a run of some islands: by its first and its last position.
 #[tactic(auto, unfolding(crate::specs::Square::place))]
-pub(crate) fn place(cores: usize, start: usize, islands: usize) -> usize
+fn place(cores: usize, start: usize, islands: usize) -> usize
     requires some { 0 < islands * cores }
     requires within { start + islands * cores ≤ most_places }
     ensures { result ≡ place cores start islands }
 {
     start * Board::PLACES + (start + islands * cores - 1)
+}
+
+// Stores the total of a run of some islands.
+#[tactic(auto, using(crate::proofs::Square::place_within, crate::proofs::Square::best_stored, crate::proofs::Square::best_others))]
+pub(crate) fn store(
+    totals: &mut [u64; SQUARE],
+    cores: usize,
+    start: usize,
+    islands: usize,
+    total: Picowatts,
+)
+    requires some_core { 0 < cores }
+    requires some_island { 0 < islands }
+    requires within { start + islands * cores ≤ most_places }
+    ensures stored { best_at cores totals.new start islands ≡ total.0 }
+    ensures others_kept { (i g : ℕ) → i + g * cores ≤ most_places → ¬ ((i ≡ start) × (g ≡ islands)) → best_at cores totals.new i g ≡ best_at cores totals.old i g }
+{
+    totals[place(cores, start, islands)] = total.0;
 }
 
 // The positions, with a table of picowatts that has the best of each of their runs of at most so many islands.

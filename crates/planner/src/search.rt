@@ -6,14 +6,14 @@ ghost use Rattle.model.specs.Limits.{most_islands};
 ghost use Rattle.planner.specs.Square.{Grown, Found};
 ghost use Rattle.planner.specs.Bounds.{Bounded};
 
-use super::bests::{Bests, SQUARE, place};
+use super::bests::{Bests, SQUARE, store};
 use super::charged::Positions;
 use super::rows::{MOST_ISLANDS, Rows};
 use super::top::Top;
 use board::Board;
 
 // All runs of m + 1 islands, added to a table that has the shorter ones.
-#[tactic(auto, using(crate::proofs::Square::place_within, crate::proofs::Growing::growing_more))]
+#[tactic(auto, using(crate::proofs::Growing::growing_more))]
 fn runs_of(totals: &mut [u64; SQUARE], positions: &Positions, rows: &mut Rows, m: usize)
     requires few { m < most_islands }
     requires bounded { let p = positions.now in Bounded p.cores p.loads.now totals.old m }
@@ -37,8 +37,8 @@ fn runs_of(totals: &mut [u64; SQUARE], positions: &Positions, rows: &mut Rows, m
             inner: m,
             rate: positions.rate(last),
         };
-        let cost = top.run_cost(rows);
-        totals[place(cores, start, m + 1)] = cost.0;
+        let total = top.run_cost(rows);
+        store(totals, cores, start, m + 1, total);
     }
 }
 

@@ -52,11 +52,7 @@ impl Bests<'_> {
             figures: [0u64; Board::PLACES],
         };
         top.fill_rows(&mut rows);
-        let below = Run {
-            start,
-            islands: m,
-            base,
-        };
+        let below = Run { islands: m, ..run };
         self.write_gaps(full, &rows, below, cores - 1, base + islands);
     }
 
@@ -93,9 +89,8 @@ impl Bests<'_> {
         };
         self.write_run(full, in_gap);
         let lower = Run {
-            start,
             islands: left,
-            base,
+            ..below
         };
         self.write_gaps(full, rows, lower, r - 1, top);
     }
