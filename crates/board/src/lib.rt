@@ -45,6 +45,6 @@ impl Board {
     pub fn power_allowed(self) -> bool
         ensures { result ≡ leb self.power.0 most_island_power }
     {
-        self.power.0 <= Board::ISLAND_POWER
+        self.power <= Microwatts(Board::ISLAND_POWER)
     }
 }

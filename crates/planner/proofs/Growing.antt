@@ -21,6 +21,7 @@ use Rattle.planner.specs.declared.charged.Positions.{Positions}
 use Rattle.planner.specs.Square.{best_at, run_cost, Grown, Filled, Found}
 use Rattle.planner.specs.Bounds.{most_draw, Bounded}
 use Rattle.planner.proofs.Fitting.{run_most}
+use Rattle.planner.proofs.TopFits.{positions_fit}
 
 -- the last position of a run is within it
 module _ (Q : ℕ) (ws : List ℕ) (i m : ℕ) (pos : 0 < Q) (inside : i + suc m * Q ≤ length ws) where
@@ -107,7 +108,10 @@ module _ (p : Positions) (before : List ℕ) (m : ℕ) where
     grown_bounded few bounded =
         one_more (λ i g. best_at Q after i g ≤ g * most_draw)
         (λ i g fewer inside. omega (arith, grown.kept i g fewer inside, bounded i g fewer inside))
-        (λ i inside. omega (arith, grown.added i inside, run_most p before i m few bounded inside))
+        (λ i inside.
+        let fits =
+        positions_fit p before (get_or p.rates.now (i + (m * Q + (Q - 1))) 0) i m (p.cheap.cheap _) few inside bounded in
+        omega (arith, grown.added i inside, run_most Q p.own.0 i m ws p.rates.now before fits p.own_low))
 
     grown_filled :
         (rate : ℕ → ℕ) → Charged rate ws p.rates.now → Filled Q p.own.0 rate ws before m → Filled Q p.own.0 rate ws after (suc m)

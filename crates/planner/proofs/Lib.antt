@@ -4,6 +4,7 @@ pub mod LevelBytes
 pub mod Square
 pub mod Figures
 pub mod Fitting
+pub mod TopFits
 pub mod Growing
 pub mod Stores
 pub mod Writing

@@ -30,7 +30,7 @@ pub(crate) struct Top<'a> {
 fn by_itself(own: Picowatts, top: Kilohertz) -> Picowatts
     ensures { result.0 ≡ itself own.0 top.0 }
 {
-    if top.0 < 1 {
+    if top < Kilohertz(1) {
         return Picowatts(0);
     }
     own
@@ -69,7 +69,7 @@ impl Top<'_> {
     }
 
     // The row of one member more, from those below it.
-    #[tactic(auto, using(crate::proofs::Figures::next_figure, crate::proofs::Fitting::figure_fits, crate::proofs::Fitting::row_gaps_fit))]
+    #[tactic(auto, using(crate::proofs::Figures::next_figure, crate::proofs::TopFits::figure_fits, crate::proofs::TopFits::row_gaps_fit))]
     fn next_row(&self, rows: &mut Rows, r: usize)
         requires member { suc r < self.now.bests.positions.cores }
         requires filled { TopFilled self.now rows.old r }
@@ -94,7 +94,7 @@ impl Top<'_> {
     }
 
     // The total of the run.
-    #[tactic(auto, using(crate::proofs::Fitting::cost_fits), unfolding(crate::specs::Square::run_cost, optimum::specs::Best::top_load, optimum::specs::Best::load_at))]
+    #[tactic(auto, using(crate::proofs::TopFits::cost_fits), unfolding(crate::specs::Square::run_cost, optimum::specs::Best::top_load, optimum::specs::Best::load_at))]
     pub(crate) fn run_cost(&self, rows: &mut Rows) -> Picowatts
         ensures { let p = self.now.bests.positions in result.0 ≡ run_cost p.cores p.own.0 p.loads.now p.rates.now (best_at p.cores self.now.bests.totals.now) self.now.start self.now.inner }
     {

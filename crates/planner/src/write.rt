@@ -57,7 +57,7 @@ impl Bests<'_> {
     }
 
     // Writes the lowest r + 1 members of an island, and the runs in the gaps below them.
-    #[tactic(auto, using(optimum::proofs::First::first_within, optimum::proofs::Recurrence::islands_parted, crate::proofs::Fitting::gaps_fit))]
+    #[tactic(auto, using(optimum::proofs::First::first_within, optimum::proofs::Recurrence::islands_parted, crate::proofs::TopFits::low_gaps_fit))]
     #[cycle(write_gaps_write_run)]
     fn write_gaps(&self, full: &mut [u8], rows: &Rows, below: Run, r: usize, top: usize)
         requires known { below.islands ≤ self.now.islands }

@@ -1,6 +1,6 @@
 -- `fill_rows`: the figures of the recurrence are low. Assumes nothing.
 use Rattle.std.proofs.Common.{arith}
-use Rattle.planner.proofs.Fitting.{filled_low}
+use Rattle.planner.proofs.TopFits.{filled_low}
 use Rattle.planner.proofs.top.Top.fill_rows.Goals as goal
 
 pub returns-clause-low : goal.returns-clause-low
