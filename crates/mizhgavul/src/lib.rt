@@ -1,5 +1,6 @@
 // The planner over bare numbers, as callers in C hand them over: one function, which the crate mizhgavul_c exports and
-// include/mizhgavul.h declares. The answer leaves as a number, and the total through a reference. Assumes nothing.
+// include/mizhgavul.h declares. Lists come beside one another, and the answer leaves as a number, the total through a reference, because C
+// has them so. Assumes nothing.
 #![tactic(auto)]
 
 ghost use Rattle.model.specs.Answer.{Answered};

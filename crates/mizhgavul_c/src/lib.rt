@@ -1,11 +1,11 @@
 // The library for callers in C: the planner's function under its name there. A slice arrives as a pointer and a count, and a reference as a
-// pointer. Assumes nothing.
+// pointer, so lists stand beside one another here, and the answer is a number with the total beside it. Assumes nothing.
 #![tactic(auto)]
 
 ghost use Rattle.model.specs.Answer.{Answered};
 ghost use Rattle.planner.specs.Given.{job_of};
 
-// Plans a job, as `mizhgavul_plan` of the crate mizhgavul does.
+// Plans a job, as `mizhgavul_plan` of the crate mizhgavul does: a crate for callers in C can't be one for Rattle's, so there are two.
 #[unsafe(no_mangle)]
 pub extern "C" fn mizhgavul_plan(
     islands: u64,

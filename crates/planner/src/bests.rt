@@ -13,7 +13,7 @@ use units::Picowatts;
 // The table has a place for every first and every last position.
 pub(crate) const SQUARE: usize = Board::PLACES * Board::PLACES;
 
-// The place of a run of some islands: by its first and its last position.
+// The place of a run of some islands: by its first and its last position, in one list, which `place` of specs/Square is about.
 #[tactic(auto, unfolding(crate::specs::Square::place))]
 fn place(cores: usize, start: usize, islands: usize) -> usize
     requires some { 0 < islands * cores }

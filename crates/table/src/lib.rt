@@ -109,7 +109,8 @@ impl Table<'_> {
         Ok(())
     }
 
-    // The lowest level whose frequency is at least the load, counted from 0, or the number of levels where there is none.
+    // The lowest level whose frequency is at least the load, counted from 0, or the number of levels where there is none: no Option, because
+    // this number is the model's `lowest`, and a load has it before it is known whether it is refused.
     pub fn level(&self, load: Kilohertz) -> usize
         ensures { result ≡ lowest self.now.frequencies.now load.0 }
     {

@@ -12,6 +12,7 @@ const T: Table<'static> = Table {
     powers: &[10000, 40000, 160000],
 };
 
+// Takes two lists and not a table, so that each of the rows below is one line.
 fn show(rt: &impl Print, name: &str, frequencies: &[u32], powers: &[u32]) -> io::Result<()> {
     let table = Table {
         frequencies,

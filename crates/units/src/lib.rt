@@ -1,6 +1,7 @@
 // The four quantities of a job as types of their own, so that a frequency or a load can't stand where a power or a cost is
-// expected, and the conversions between them that no input breaks. Sums and products of them are the planner's: they may overflow, and
-// what is public asks nothing of its caller, so no operator stands here. Assumes nothing.
+// expected, and the conversions between them that no input breaks. They are four tuple structs, the form that 01 has for this place, and
+// not one with the unit as a parameter. Sums and products of them are the planner's: they may overflow, and what is public asks nothing
+// of its caller, so no operator stands here. Assumes nothing.
 #![tactic(auto)]
 
 ghost use Rattle.std.specs.Prelude.{◌≡◌, ◌*◌, leb};
