@@ -4,6 +4,7 @@
 --     lowest_written    the lowest member, and then the run below it
 --     member_written    a higher member, then the run in the gap below it, then all below that
 --     run_written       a run: its top island, with the rows of its own charge
+--     top_made          a top island has its run's charge, and its rows are those of the run
 -- Assumes nothing.
 use Prim.Native.Nat.{ℕ, zero, suc, ◌+◌, ◌-◌, ◌*◌, ◌≤◌, ◌<◌}
 use mathlib.Core.Path.{◌≡◌, sym, ap, subst, ◌∙◌}
@@ -19,8 +20,11 @@ use Rattle.optimum.proofs.Recurrence.{islands_parted}
 use Rattle.optimum.proofs.ChosenRun.{gaps_lowest, gaps_member, by_none, by_is, by_run, by_gaps}
 use Rattle.optimum.proofs.Shapes.{run_length, gaps_length}
 use Rattle.planner.specs.declared.bests.Bests.{Bests}
+use Rattle.planner.specs.declared.rows.Rows.{Rows}
+use Rattle.planner.specs.declared.top.Top.{Top}
 use Rattle.planner.specs.Square.{best_at}
 use Rattle.planner.specs.Rows.{row_at, Filling}
+use Rattle.planner.specs.Members.{TopFilled}
 use Rattle.planner.specs.Written.{RunWritten, GapsWritten}
 use Rattle.planner.proofs.Figures.{one_below, gap_by_rows}
 use Rattle.planner.proofs.Stores.{sets_joined, sets_three}
@@ -137,3 +141,21 @@ module _ (bests : Bests) where
       → GapsWritten Q ws rates totals before after rows (base + k) i base (Q - 1) (v - 1)
       → RunWritten Q ws rates totals before after i base k)
       (one_below v some) (λ room. run_at rows before after ρ i base (v - 1) room highest filling) within top
+
+module _ (top : Top) (rows : Rows) where
+  abbrev Made : Bests → (i m : ℕ) → Type 0
+  Made bests i m =
+      let p = bests.positions in
+      (top.rate.0 ≡ get_or p.rates.now (i + (m * p.cores + (p.cores - 1))) 0)
+      × Filling p.cores p.loads.now (best_at p.cores bests.totals.now) top.rate.0 i rows.figures (p.cores - 1) m
+
+  pub top_made :
+      (bests : Bests) (i m : ℕ)
+      → top.bests ≡ bests
+      → top.start ≡ i
+      → top.inner ≡ m
+      → TopFilled top rows (top.bests.positions.cores - 1)
+      → Made bests i m
+  top_made bests i m of_bests from islands filled =
+      subst (λ (b : Bests). Made b i m) of_bests
+      (subst (λ (k : ℕ). Made top.bests k m) from (subst (λ (k : ℕ). Made top.bests top.start k) islands (top.charged, filled)))

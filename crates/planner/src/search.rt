@@ -9,7 +9,6 @@ ghost use Rattle.planner.specs.Bounds.{Bounded};
 use super::bests::{Bests, SQUARE, store};
 use super::charged::Positions;
 use super::rows::{MOST_ISLANDS, Rows};
-use super::top::Top;
 use board::Board;
 
 // All runs of m + 1 islands, added to a table that has the shorter ones.
@@ -30,14 +29,7 @@ fn runs_of(totals: &mut [u64; SQUARE], positions: &Positions, rows: &mut Rows, m
             totals,
             islands: m,
         };
-        let last = start + (m * cores + (cores - 1));
-        let top = Top {
-            bests,
-            start,
-            inner: m,
-            rate: positions.rate(last),
-        };
-        let total = top.run_cost(rows);
+        let total = bests.top(start, m).run_cost(rows);
         store(totals, cores, start, m + 1, total);
     }
 }

@@ -25,6 +25,27 @@ pub(crate) struct Top<'a> {
     ghost charged: { rate.0 ≡ get_or bests.positions.rates.now (start + (inner * bests.positions.cores + (bests.positions.cores - 1))) 0 },
 }
 
+impl<'a> Bests<'a> {
+    // The top island of a run of one island more than stand in its gaps.
+    pub(crate) fn top(self, start: usize, inner: usize) -> Top<'a>
+        requires few { inner < most_islands }
+        requires known { inner ≤ self.islands }
+        requires within { start + suc inner * self.positions.cores ≤ length self.positions.loads.now }
+        ensures bests { result.bests ≡ self.entry }
+        ensures start { result.start ≡ start }
+        ensures inner { result.inner ≡ inner }
+    {
+        let cores = self.positions.cores;
+        let last = start + (inner * cores + (cores - 1));
+        Top {
+            bests: self,
+            start,
+            inner,
+            rate: self.positions.rate(last),
+        }
+    }
+}
+
 // What an island draws by itself: nothing where its heaviest load is 0.
 #[tactic(auto, unfolding(optimum::specs::Best::itself))]
 fn by_itself(own: Picowatts, top: Kilohertz) -> Picowatts

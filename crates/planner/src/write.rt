@@ -8,7 +8,6 @@ ghost use Rattle.planner.specs.Written.{Low, RunWritten, GapsWritten};
 
 use super::bests::Bests;
 use super::rows::Rows;
-use super::top::Top;
 use board::Board;
 
 // A run: its first position, its islands, and the number of the island before its lowest. Below a member, the runs in the gaps count
@@ -40,20 +39,12 @@ impl Bests<'_> {
             return;
         }
         let m = islands - 1;
-        let cores = self.positions.cores;
-        let last = start + (m * cores + (cores - 1));
-        let top = Top {
-            bests: *self,
-            start,
-            inner: m,
-            rate: self.positions.rate(last),
-        };
         let mut rows = Rows {
             figures: [0u64; Board::PLACES],
         };
-        top.fill_rows(&mut rows);
+        self.top(start, m).fill_rows(&mut rows);
         let below = Run { islands: m, ..run };
-        self.write_gaps(full, &rows, below, cores - 1, base + islands);
+        self.write_gaps(full, &rows, below, self.positions.cores - 1, base + islands);
     }
 
     // Writes the lowest r + 1 members of an island, and the runs in the gaps below them.

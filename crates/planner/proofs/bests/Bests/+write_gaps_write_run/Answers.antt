@@ -2,7 +2,7 @@
 use Rattle.std.proofs.Common.{arith}
 use Rattle.std.proofs.lemmas.Grind.{common_steps}
 use Rattle.optimum.proofs.Recurrence.{islands_parted}
-use Rattle.planner.proofs.Writing.{found_within, lowest_written, member_written, run_written}
+use Rattle.planner.proofs.Writing.{found_within, lowest_written, member_written, top_made, run_written}
 use Rattle.planner.proofs.bests.Bests.+write_gaps_write_run.Goals as goal
 
 pub write_gaps-returns-then-r-lt1 : goal.write_gaps-returns-then-r-lt1
@@ -22,5 +22,7 @@ write_gaps-returns t c =
 
 pub write_run-returns : goal.write_run-returns
 write_run-returns t c =
-    run_written c.args.self.now c.fill_rows.new.rows.figures c.args.full.now _ c.rate.result.0 c.args.run.start _ c.args.run.islands
-    (omega arith) c.requires.within c.rate.ensures c.fill_rows.ensures.filled c.write_gaps.ensures
+    let e = c.top.ensures in
+    let made = top_made c.top.result c.fill_rows.new.rows c.args.self.now c.args.run.start _ e.bests e.start e.inner c.fill_rows.ensures.filled in
+    run_written c.args.self.now c.fill_rows.new.rows.figures c.args.full.now _ c.top.result.rate.0 c.args.run.start _ c.args.run.islands
+    (omega arith) c.requires.within made.0 made.1 c.write_gaps.ensures
