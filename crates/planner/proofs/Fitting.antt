@@ -1,5 +1,7 @@
 -- Every sum of the recurrence fits in 64 bits, for a run within the board.
 --     RunFits        a run of m + 1 islands from i on, of low loads and with a low charge ρ, over a table of low totals of shorter runs
+--     below_member   what lies below a member ends within the board
+--     row_most       what a row of the recurrence has is no more than its islands and members may draw
 --     row_fits       what a row of the recurrence has fits in 64 bits
 --     run_most       the total of a run is no more than its islands may draw
 --     gaps_fit       over low rows, whatever a gap gets costs less than 2 ^ 64

@@ -4,6 +4,7 @@
 --     light             and each is within the range of frequencies
 --     below             every level that is looked up is one of the table
 --     priced            the costs of these levels are what islands are charged, and none is too high
+--     lent_front        the part of an array that is lent has a place for each position
 --     laid              loads that are copied behind zeros are the padded loads
 -- Assumes nothing.
 use Prim.Native.Nat.{ℕ, zero, suc, ◌+◌, ◌-◌, ◌*◌, ◌≤◌, ◌<◌, zero-le}

@@ -1,4 +1,5 @@
-// The level bytes: the level number of each island.
+// The level bytes: the level number of each island. The islands and the levels of the loads stand beside the loads, because each is a part
+// of an array that is worked out for the whole board, and a list of records would only be taken apart again.
 // `number_levels` asks for lists whose lengths go together, islands and levels of the job, and level numbers that are all 0; its caller
 // shows it.
 ghost use Rattle.std.specs.Prelude.{◌≡◌, ◌-◌, ◌<◌, length};

@@ -48,6 +48,7 @@ impl Bests<'_> {
             islands: 0,
             cost: self.gap_cost(rows, start, r, m, 0),
         };
+        // `1..=m` returns in two places, and every clause would be proved twice; `min_by_key` does not say which of equal costs it takes.
         for g in 1..m + 1 {
             let cost = self.gap_cost(rows, start, r, m, g);
             if cost < least.cost {

@@ -1,9 +1,10 @@
-// The planner's entry: a job is judged first, then planned on the side, and the lent buffers are written when nothing can refuse any
-// more. `plan` asks nothing; the functions before it ask for lists whose lengths go together and for parts of the plan, and every caller
-// shows it.
+// The planner's entry: a job is judged first, then planned on the side, and the lent buffers are written when nothing can refuse any more.
+// Arrays are as long as the largest board needs, and a part of each is used, because nothing here is allocated; the buffers stand beside
+// one another, because C lends them so and `Answered` speaks of each. `plan` asks nothing; the functions before it ask for lists whose
+// lengths go together and for parts of the plan, and every caller shows it.
 ghost use Rattle.std.specs.Prelude.{◌≡◌, ◌++◌, ◌*◌, ◌≤◌, length, drop};
 ghost use Rattle.model.specs.Limits.{most_islands, most_levels};
-ghost use Rattle.model.specs.Plan.{Named};
+ghost use Rattle.model.specs.Plan.{Named, padded};
 ghost use Rattle.model.specs.Power.{levels as level_bytes};
 ghost use Rattle.model.specs.Refusals.{RoomEnough, number_of};
 ghost use Rattle.model.specs.Answer.{total_of, Answered};
@@ -49,18 +50,15 @@ fn solve(positions: &Positions, islands: usize, full: &mut [u8]) -> Picowatts
     bests.at(0, islands)
 }
 
-// The same for a job that nothing refuses, with the level of each position: the loads are laid out behind the padding, looked up in the
-// table and charged.
-fn settle(sound: &Sound<'_>, steps: &mut [u8], full: &mut [u8]) -> Picowatts
+// The same for a job that nothing refuses, with the level of each position: the loads are looked up in the table and charged.
+fn settle(sound: &Sound<'_>, loads: &[u64], steps: &mut [u8], full: &mut [u8]) -> Picowatts
+    requires laid_out { loads.now ≡ padded (given sound.now.job) }
     requires step_a_position { length steps.old ≡ sound.now.job.islands * sound.now.job.cores }
     requires island_a_position { length full.old ≡ sound.now.job.islands * sound.now.job.cores }
     ensures { SettledJob (given sound.now.job) steps.new result.0 full.new }
 {
     let places = sound.places();
-    let mut loads = [0u64; Board::PLACES];
     let mut rates = [0u64; Board::PLACES];
-    loads[sound.padding()..places].copy_from_slice(sound.job.loads);
-    let loads = &loads[..places];
     look_up(sound, loads, steps);
     charge_all(sound, steps, &mut rates[..places]);
     let positions = Positions {
@@ -70,6 +68,18 @@ fn settle(sound: &Sound<'_>, steps: &mut [u8], full: &mut [u8]) -> Picowatts
         rates: &rates[..places],
     };
     solve(&positions, sound.islands(), full)
+}
+
+// The same, with the loads of the job laid out behind the padding.
+fn settle_job(sound: &Sound<'_>, steps: &mut [u8], full: &mut [u8]) -> Picowatts
+    requires step_a_position { length steps.old ≡ sound.now.job.islands * sound.now.job.cores }
+    requires island_a_position { length full.old ≡ sound.now.job.islands * sound.now.job.cores }
+    ensures { SettledJob (given sound.now.job) steps.new result.0 full.new }
+{
+    let places = sound.places();
+    let mut loads = [0u64; Board::PLACES];
+    loads[sound.padding()..places].copy_from_slice(sound.job.loads);
+    settle(sound, &loads[..places], steps, full)
 }
 
 // Writes both buffers, from the island and the level of each load.
@@ -99,7 +109,7 @@ fn planned(sound: &Sound<'_>, plan: &mut [u8], levels: &mut [u8]) -> Picowatts
     let front = sound.padding();
     let mut steps = [0u8; Board::PLACES];
     let mut full = [0u8; Board::PLACES];
-    let total = settle(sound, &mut steps[..places], &mut full[..places]);
+    let total = settle_job(sound, &mut steps[..places], &mut full[..places]);
     hand_back(
         sound,
         &full[front..places],

@@ -1,7 +1,7 @@
-// The positions of a board: the level of each, and what an island is charged whose heaviest load stands there. `steps` are levels
-// counted from 0. Loads, levels and charges are lists beside one another and not one of records, because what is said of them (`padded`,
-// `Looked`, `Costed`) is said of lists of numbers. Functions here ask for lists whose lengths go together and for levels of the table;
-// every caller within the crate shows it.
+// The positions of a board: the level of each, and what an island is charged whose heaviest load stands there. `steps` are levels counted
+// from 0. Loads, levels and charges are lists beside one another and not one of records, because the loads are lent as numbers and the
+// levels handed on as bytes: records would be made of the one and taken apart for the other. Functions here ask for lists whose lengths go
+// together and for levels of the table; every caller within the crate shows it.
 ghost use Rattle.std.specs.Prelude.{◌≡◌, ◌*◌, ◌<◌, ◌^◌, length};
 ghost use Rattle.model.specs.Limits.{million};
 ghost use Rattle.model.specs.Level.{rounded_up, cost};

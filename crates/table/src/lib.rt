@@ -1,6 +1,6 @@
-// The level table: whether it is refused, and which level a load gets.
-// The two lists are lent as the caller has them; a value is wrapped in its unit where it is multiplied or handed on, and range and order
-// are tested on the bare numbers. `judge` and `level` ask nothing; of what they call, only the slope test asks for lists of one length.
+// The level table: whether it is refused, and which level a load gets. The two lists are lent as the caller has them; a value is wrapped in
+// its unit where it is multiplied or handed on, and range and order are tested on the bare numbers. `judge` and `level` ask nothing; of
+// what they call, the slope test asks for lists of one length and for frequencies of 32 bits.
 #![tactic(auto)]
 
 ghost use Rattle.std.specs.Prelude.{◌≡◌, ◌↔◌, ◌*◌, ◌<◌, ◌^◌, IsTrue, ltb, length};
