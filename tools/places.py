@@ -62,27 +62,42 @@ show(2, "functions whose bodies differ in names alone (read the others)", twins)
 show(3, "loops that count an index by hand", lines(r"\bwhile\b|\bloop\b"))
 # 4
 show(4, "comparisons of what a unit holds", [h for h in lines(r"\w\.0 (<|<=|==|!=|>|>=) |(<|<=|==|!=|>|>=) \w+\.0\b") if " * " not in h and "requires" not in h])
-show(4, "conversions and copies by a function of one's own", [f"{f}: {n}" for f, n, p, r, b in functions() if re.fullmatch(r"number|of_level|picowatts|copy|lay_out", n)])
+
+
+def body(text_after_head):
+    """the statements of a function, without its clauses"""
+    return re.split(r"^\s*\{\n", text_after_head, maxsplit=1, flags=re.M)[-1].strip()
+
+
+show(4, "functions of one value that only convert it, by a cast, a constructor or a match, or copy a list by hand", [
+    f"{f}: {n}" for f, n, p, r, b in functions()
+    if n != "from" and (p.count(":") + ("self" in p) == 1 and r not in ("", "bool")
+        and (re.fullmatch(r"\(*(\w+|self)(\.\w+)* as \w+\)?( [-+*] \d+)?", body(b)) or re.fullmatch(r"[A-Z]\w+\([^;]*\)", body(b)) or body(b).startswith("match "))
+        or re.search(r"\w+\[[^\]]*\] = \w+\[\w+\];", b))])
 # 5
 facts = collections.Counter()
 for f in files:
     for m in re.finditer(r"^\s*requires(?: \w+)? \{ (.*?) \}$", text[f], re.M):
         for part in m.group(1).split(" × "):
-            facts[part.strip("()")] += 1
-show(5, "facts that three or more contracts ask for", [f"{k} ({v})" for k, v in facts.most_common() if v >= 3])
-sets = [(n, {q.split(":")[0].strip() for q in p.split(",") if ":" in q}) for f, n, p, r, b in functions()]
+            fact = re.sub(r"\.(now|old)\b", "", part.strip("()"))
+            facts[re.sub(r"\b((self|sound|job|positions|bests)\.)+(?=\w)", "", fact)] += 1
+show(5, "facts that three or more contracts ask for, whatever value they are a part of", [f"{k} ({v})" for k, v in facts.most_common() if v >= 3])
+sets = [(n, frozenset(q.split(":")[0].strip() for q in p.split(",") if ":" in q)) for f, n, p, r, b in functions()]
 groups = set()
 for some in itertools.combinations(sets, 3):
-    shared = frozenset(set.intersection(*(q for _, q in some)))
+    shared = frozenset.intersection(*(q for _, q in some))
     if len(shared) >= 3:
         groups.add(shared)
 largest = [g for g in groups if not any(g < h for h in groups)]
 show(5, "largest groups of three or more parameters that three or more functions take together", sorted(
     f"{', '.join(sorted(g))} ({sum(g <= q for _, q in sets)})" for g in largest))
+names = sorted({q for _, qs in sets for q in qs})
+takes = {name: {k for k, (_, qs) in enumerate(sets) if name in qs} for name in names}
+show(5, "pairs of parameters that two or more functions take, and none takes one without the other", [
+    f"{a}, {b} ({len(takes[a])})" for a, b in itertools.combinations(names, 2) if takes[a] == takes[b] and len(takes[a]) >= 2])
 # 6
-BESIDE = ("frequencies", "powers"), ("positions", "rates"), ("positions", "steps"), ("loads", "steps"), ("frequencies_khz", "powers_uw")
-show(6, "functions that take lists which run beside one another", [
-    f"{f}: {n}: {a}, {b_}" for f, n, p, r, b in functions() for a, b_ in BESIDE if re.search(rf"\b{a}: ", p) and re.search(rf"\b{b_}: ", p)])
+show(6, "functions that take two or more lists", [f"{f}: {n}" for f, n, p, r, b in functions() if len(re.findall(r"&(?:mut )?\[u\d+\]", p)) >= 2])
+show(6, "arrays of the largest size, of which a part is used", lines(r"let mut \w+ = \[0u(8|64); Board::PLACES\]|let mut numbers = "))
 # 7
 show(7, "tables of functions, function pointers and dyn", lines(r"\bdyn\b|: fn\("))
 # 8

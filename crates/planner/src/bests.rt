@@ -13,7 +13,9 @@ use units::Picowatts;
 // The table has a place for every first and every last position.
 pub(crate) const SQUARE: usize = Board::PLACES * Board::PLACES;
 
-// The place of a run of some islands: by its first and its last position, in one list, which `place` of specs/Square is about.
+// The place of a run of some islands: by its first and its last position, in one list, because `best_at` of specs/Square, of which
+// `run_most` and `gaps_fit` are said, is about one. A run is given here by its start and its islands, which loops count, and within the
+// largest board: a value for it would be made anew at every turn.
 #[tactic(auto, unfolding(crate::specs::Square::place))]
 fn place(cores: usize, start: usize, islands: usize) -> usize
     requires some { 0 < islands * cores }

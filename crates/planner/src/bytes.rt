@@ -11,7 +11,7 @@ ghost use Rattle.planner.specs.Positions.{Looked, Below, Blank};
 
 use super::job::Sound;
 
-// The index of an island's level byte: islands are numbered from 1.
+// The index of an island's level byte: islands are numbered from 1. A byte is no type of its own here, so this is no `From`.
 fn index(island: u8) -> usize
     requires { 0 < island }
     ensures { result ≡ island - 1 }

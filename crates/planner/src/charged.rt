@@ -22,6 +22,8 @@ pub(crate) struct Positions<'a> {
     ghost own_low: { own.0 ≤ most_own },
 }
 
+// A position is what loops count, so each method asks that it is one: a type for it would be made anew at every turn. Two lists of two
+// units have a method each, of one line.
 impl Positions<'_> {
     pub(crate) fn load(&self, at: usize) -> Kilohertz
         requires { at < length self.now.loads.now }

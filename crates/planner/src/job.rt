@@ -25,6 +25,7 @@ pub(crate) struct Sound<'a> {
     ghost passed: { Passed (given job) },
 }
 
+// The sizes are counts where the planner reckons with them: two fields read as another width, each in a line.
 impl Sound<'_> {
     pub(crate) fn islands(&self) -> usize
         ensures { result ≡ self.now.job.islands }

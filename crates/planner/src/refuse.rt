@@ -48,7 +48,7 @@ fn judge_loads(job: &Job<'_>) -> Result<(), Refusal>
     Ok(())
 }
 
-// Cause 9: the room in the two lent buffers.
+// Cause 9: the room in the two lent buffers, two numbers as `room_conditions` has them.
 fn judge_room(job: &Job<'_>, plan_room: usize, level_room: usize) -> Result<(), Refusal>
     ensures { Tried (room_conditions (given job.now) plan_room level_room) (number_of result) }
 {

@@ -12,8 +12,8 @@ use units::Picowatts;
 pub(crate) const MOST_ISLANDS: usize = Board::ISLANDS as usize;
 
 // Figures in picowatts, one row after another; row r is that of the lowest r + 1 members. One list and not a list of rows, because
-// `row_at`, which the proofs read, is of one. Members and islands are what loops count: a type that holds the bounds of either would be
-// made anew at every turn, so the methods ask for them.
+// `row_at`, of which `gaps_fit` is said, is of one. Members and islands are what loops count: a type that holds the bounds of either would
+// be made anew at every turn, so the methods ask for them.
 #[derive(Drop)]
 pub(crate) struct Rows {
     pub(crate) figures: [u64; Board::PLACES],

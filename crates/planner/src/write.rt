@@ -19,6 +19,7 @@ pub(crate) struct Run {
     pub(crate) base: usize,
 }
 
+// The plan is lent apart from the bests, which are read while it is written; so its length stands in the clauses.
 impl Bests<'_> {
     // Writes the island numbers of a run: its top island has the highest.
     #[tactic(auto, using(optimum::proofs::Recurrence::islands_parted, crate::proofs::Writing::none_written))]
