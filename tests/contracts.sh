@@ -20,6 +20,7 @@ heads() {
         FNR == 1 && inside { of_trait = 0; judged(0) }
         { sub(/\/\/.*/, "") }
         /^impl[ \t<].* for .*\{[ \t]*$/ {
+            if (inside) judged(0)
             inside = 1; of_trait = 1; stated = 0; asked = 0; where = FILENAME; name = $0
             sub(/[ \t]*\{[ \t]*$/, "", name)
             next
@@ -97,6 +98,10 @@ pub fn asks_of_memory(x: &u64) -> u64
 {
     *x
 }
+pub fn bare_before_an_impl(x: u64)
+    -> u64 {
+    x
+}
 impl From<u32> for Good {
     ghost from_gives = { λ n r. r.0 ≡ n };
 
@@ -121,8 +126,8 @@ impl Add for Asks {
     }
 }
 HEADS
-if [ "$(heads "$faults" | tail -n 1)" != "4 passed, 10 failed" ]; then
-    echo "the check itself is at fault: of fourteen heads it has to pass four"
+if [ "$(heads "$faults" | tail -n 1)" != "4 passed, 11 failed" ]; then
+    echo "the check itself is at fault: of fifteen heads it has to pass four"
     heads "$faults"
     exit 1
 fi
