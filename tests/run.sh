@@ -6,7 +6,7 @@ cd "$(dirname "$0")/.." || exit 1
 need_rt
 
 say "proving" $(crate_names)
-say "the planner takes about a minute, the others seconds; what is unchanged is not proved again"
+say "the planner takes about two minutes, the others up to one; what is unchanged is not proved again"
 log=$(mktemp) || exit 1
 trap 'rm -f "$log"' EXIT
 { rt all check 2>&1; echo "exit status $?"; } | tee "$log" | sed -n '/^== summary$/d; s/^== /checked /p; / crates ok$/p'
