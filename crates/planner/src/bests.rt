@@ -43,8 +43,8 @@ pub(crate) fn store(
     totals[place(cores, start, islands)] = total.0;
 }
 
-// The positions, with a table of picowatts for each of their runs of at most so many islands: what it has is so low that every sum fits.
-// That they are the bests is what `search` says of them.
+// The positions, with a table that has picowatts for each of their runs of at most so many islands, so low that every sum fits. That these
+// are the bests is what `search` says of its table.
 #[derive(Clone, Copy)]
 pub(crate) struct Bests<'a> {
     pub(crate) positions: Positions<'a>,
